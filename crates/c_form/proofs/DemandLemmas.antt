@@ -22,10 +22,6 @@ use Rattle.c_form.specs.Demands.{ask, Tally, none_asked, ask_function, ask_struc
 abbrev pub IsFirstNamed : List ItemTree → ℕ → ItemTree → Type 0
 IsFirstNamed items i item = is_among (map item_name (take i items)) (item_name item) ≡ false
 
-met_test : (b : Bool) (m : Bool) (x : Bool) → b ≡ true → (m && x) ≡ (m && (if b then x else true))
-met_test true m x h = refl
-met_test false m x h = absurd (cc (h))
-
 met_same : (b : Bool) (m : Bool) (x : Bool) → b ≡ false → m ≡ (m && (if b then x else true))
 met_same true m x h = absurd (cc (h))
 met_same false true x h = refl

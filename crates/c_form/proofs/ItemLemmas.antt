@@ -90,9 +90,6 @@ field_twice structs f fs table whole taken h =
     and_false true = refl
     and_false false = refl
 
-pub field_unformed : (structs : List StructDecl) (f : FieldTree) (fs : List FieldTree) (seen : List (List ℕ)) (whole : Bool) → formed_field structs f ≡ false → fields_fit structs seen (f ∷ fs) ≡ whole → false ≡ whole
-field_unformed structs f fs seen whole unformed h = sym (ap (λ b. b && (not (is_among seen f.name) && fields_fit structs (seen ++ f.name ∷ []) fs)) unformed) ∙ h
-
 pub some_at : {A : Type 0} (xs : List A) (i : ℕ) → i < length xs → (x : A) × (slice_get xs i ≡ Some x)
 some_at [] i h = absurd (omega (arith, h))
 some_at (x ∷ xs) zero h = (x, refl)

@@ -5,71 +5,14 @@ use Rattle.std.specs.Str.{bytes_eq}
 use Rattle.std.proofs.lemmas.Bool.Decides.{nat_tests}
 use Rattle.wf_text.specs.Surface.{PublicArg}
 use Rattle.c_text.specs.declared.kinds.CUint.{CUint}
-use Rattle.c_text.specs.declared.kinds.CUint.TheVariants.{U8, U16, U32, U64}
-use Rattle.c_text.specs.CTree.{TypeTree, uint, size, boolean, uint_pointer, struct_pointer, text, ParamTree}
-use Rattle.c_meaning.specs.CTypes.{same_uint, same_type}
+use Rattle.c_text.specs.CTree.{size, uint_pointer, ParamTree}
+use Rattle.c_meaning.specs.CTypes.{same_type}
 use Rattle.c_meaning.specs.UnitForm.{same_params, param, arg_params}
 use Rattle.c_text.specs.declared.nodes.CParam.{CParam}
 use Rattle.c_text.specs.CNodes.{Nodes, param_tree}
 use Rattle.c_text.specs.CFits.{HasParam, HasParams}
 use Rattle.c_form_exprs.proofs.FrontLemmas.{bytes_eq-swap}
 use Rattle.c_form.specs.Signatures.{first_is, TakesOne, TakesArg}
-
-same_uint-swap : (a b : CUint) → same_uint a b ≡ same_uint b a
-same_uint-swap U8 U8 = refl
-same_uint-swap U8 U16 = refl
-same_uint-swap U8 U32 = refl
-same_uint-swap U8 U64 = refl
-same_uint-swap U16 U8 = refl
-same_uint-swap U16 U16 = refl
-same_uint-swap U16 U32 = refl
-same_uint-swap U16 U64 = refl
-same_uint-swap U32 U8 = refl
-same_uint-swap U32 U16 = refl
-same_uint-swap U32 U32 = refl
-same_uint-swap U32 U64 = refl
-same_uint-swap U64 U8 = refl
-same_uint-swap U64 U16 = refl
-same_uint-swap U64 U32 = refl
-same_uint-swap U64 U64 = refl
-
-pub same_type-swap : (a b : TypeTree) → same_type a b ≡ same_type b a
-same_type-swap (uint a) (uint b) = same_uint-swap a b
-same_type-swap (uint a) size = refl
-same_type-swap (uint a) boolean = refl
-same_type-swap (uint a) (uint_pointer b) = refl
-same_type-swap (uint a) (struct_pointer b) = refl
-same_type-swap (uint a) text = refl
-same_type-swap size (uint b) = refl
-same_type-swap size size = refl
-same_type-swap size boolean = refl
-same_type-swap size (uint_pointer b) = refl
-same_type-swap size (struct_pointer b) = refl
-same_type-swap size text = refl
-same_type-swap boolean (uint b) = refl
-same_type-swap boolean size = refl
-same_type-swap boolean boolean = refl
-same_type-swap boolean (uint_pointer b) = refl
-same_type-swap boolean (struct_pointer b) = refl
-same_type-swap boolean text = refl
-same_type-swap (uint_pointer a) (uint b) = refl
-same_type-swap (uint_pointer a) size = refl
-same_type-swap (uint_pointer a) boolean = refl
-same_type-swap (uint_pointer a) (uint_pointer b) = same_uint-swap a b
-same_type-swap (uint_pointer a) (struct_pointer b) = refl
-same_type-swap (uint_pointer a) text = refl
-same_type-swap (struct_pointer a) (uint b) = refl
-same_type-swap (struct_pointer a) size = refl
-same_type-swap (struct_pointer a) boolean = refl
-same_type-swap (struct_pointer a) (uint_pointer b) = refl
-same_type-swap (struct_pointer a) (struct_pointer b) = bytes_eq-swap a b
-same_type-swap (struct_pointer a) text = refl
-same_type-swap text (uint b) = refl
-same_type-swap text size = refl
-same_type-swap text boolean = refl
-same_type-swap text (uint_pointer b) = refl
-same_type-swap text (struct_pointer b) = refl
-same_type-swap text text = refl
 
 -- A name is a front with a rest after it.
 pub front_spelt : (front name found : List ℕ) → length front ≤ length found → (bytes_eq (take (length front) found) front && bytes_eq (drop (length front) found) name) ≡ bytes_eq (front ++ name) found
@@ -83,15 +26,6 @@ front_spelt (x ∷ front) name (y ∷ found) h = and_in (nat_eq y x) (bytes_eq (
 
     nat_eq-swap : (m n : ℕ) → nat_eq m n ≡ nat_eq n m
     nat_eq-swap m n = grind (arith, nat_tests)
-
-pub too_short : (front name found : List ℕ) → length found < length front → false ≡ bytes_eq (front ++ name) found
-too_short [] name found h = absurd (omega (arith, h))
-too_short (x ∷ front) name [] h = refl
-too_short (x ∷ front) name (y ∷ found) h = sym (ap (λ b. nat_eq x y && b) (sym (too_short front name found (omega (arith, h)))) ∙ and_false (nat_eq x y))
-  where
-    and_false : (b : Bool) → (b && false) ≡ false
-    and_false true = refl
-    and_false false = refl
 
 -- One parameter more.
 pub first_params : (p : ParamTree) (more qs : List ParamTree) → same_params (p ∷ more) qs ≡ (first_is p qs && same_params more (drop 1 qs))

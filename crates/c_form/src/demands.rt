@@ -1,7 +1,6 @@
 // What the public functions of a package ask of the items of a text. Each name is looked up once.
 
 ghost use Rattle.std.specs.Prelude.{◌≡◌, ◌<◌, ℕ, List, map, length, slice_get, Some, IfOk, OnOk};
-ghost use Rattle.c_meaning.specs.CRun.{struct_name};
 ghost use Rattle.c_text.specs.CNodes.{unit_tree};
 ghost use Rattle.c_form_exprs.specs.Tables.{named};
 ghost use Rattle.c_form.specs.Items.{item_at};

@@ -9,8 +9,8 @@ use wf_text::NoMemory;
 /// Why a unit isn't taken.
 #[derive(Debug, Drop, Error)]
 pub enum LoadFault {
-    /// The item with this number, from 0, is the first that breaks the unit form; the number of items, where there is
-    /// none or a public function is missing.
+    /// The number, counted from 0, of the first item that breaks the unit form; the number of items, where there is none or
+    /// a public function is missing.
     #[error("item {item} breaks the unit form")]
     NoSuchForm {
         /// The number of the item.

@@ -15,8 +15,8 @@ use std::alloc::Global;
 use wf_bufs::PublicSurface;
 
 /// What all items of a unit declare, where the unit has the unit form for the package with this surface. `NoSuchForm` exactly
-/// where it hasn't, with the number of the first item that breaks it; the number of items, where none does but there is no
-/// item or a public function is missing. `Memory` where memory was refused.
+/// where it hasn't, with the number of the first item that breaks it; the number of items, where none does but a public
+/// function is missing or there is no item. `Memory` where memory was refused.
 fn checked<'u>(
     alloc: Global,
     unit: &'u Unit,
@@ -51,7 +51,8 @@ fn checked<'u>(
 }
 
 /// Takes a unit that has the unit form for the package with this surface. `NoSuchForm` exactly where it hasn't, with the
-/// number of the first item that breaks it; the number of items, where there is no item or a public function is missing.
+/// number of the first item that breaks it; the number of items, where no item does but a public function is missing
+/// or there is none.
 /// `Memory` where memory was refused.
 pub fn formed<'u>(
     alloc: Global,

@@ -2,10 +2,10 @@
 
 ghost use Rattle.std.specs.Prelude.{◌≡◌, ◌<◌, ℕ, List, [], map, length, option_map, IfOk, Some};
 ghost use Rattle.std.specs.List.{slice_get};
-ghost use Rattle.c_text.specs.CNodes.{unit_tree, bytes_at, type_in, field_tree};
-ghost use Rattle.c_text.specs.CFits.{HasType, HasField, HasFields};
+ghost use Rattle.c_text.specs.CNodes.{unit_tree, type_in, field_tree};
+ghost use Rattle.c_text.specs.CFits.{HasField, HasFields};
 ghost use Rattle.c_meaning.specs.CTypes.{structs_of};
-ghost use Rattle.c_meaning.specs.UnitForm.{item_name, formed_fields, formed_field, is_value as is_value_type, is_length as is_length_of, is_field as is_field_of, are_fields, io_buffer_fields, is_io_buffer};
+ghost use Rattle.c_meaning.specs.UnitForm.{item_name, formed_field, is_value as is_value_type, is_length as is_length_of, is_field as is_field_of, are_fields, io_buffer_fields, is_io_buffer};
 ghost use Rattle.c_form_exprs.specs.Front.{front_items};
 ghost use Rattle.c_form_exprs.specs.Tables.{named};
 ghost use Rattle.c_form.specs.Items.{item_at, formed_alone, fields_fit};

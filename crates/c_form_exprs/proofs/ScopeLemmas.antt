@@ -7,7 +7,7 @@ use Rattle.c_text.specs.CTree.{ParamTree}
 use Rattle.c_text.specs.CNodes.{Nodes}
 use Rattle.c_text.specs.CFits.{HasType}
 use Rattle.c_meaning.specs.CTypes as by_name
-use Rattle.c_meaning.specs.CTypes.{TextDecl, Scope, variable_held}
+use Rattle.c_meaning.specs.CTypes.{TextDecl, CScope, variable_held}
 use Rattle.c_form_exprs.specs.declared.types.Held.TheVariants as held
 use Rattle.c_form_exprs.specs.Tables.{named}
 use Rattle.c_form_exprs.proofs.FrontLemmas.{find_listed}
@@ -27,21 +27,21 @@ names_after nodes old new name ty (Err fault) is same has h = rw same h
 pub name_at : (nodes : Nodes) (es : List (List ℕ × CType)) → Lists (IsTyped nodes) (λ p. p.name) es (map (entry_param nodes.names) es) → (q : List ℕ) (r o : Option CType) → r ≡ named es q → r ≡ o → Finds (IsTyped nodes) o (find (λ it. bytes_eq it.name q) (map (entry_param nodes.names) es))
 name_at nodes es h q r o is some = subst (λ (x : Option CType). Finds (IsTyped nodes) x (find (λ it. bytes_eq it.name q) (map (entry_param nodes.names) es))) (sym is ∙ some) (find_listed (IsTyped nodes) (λ p. p.name) es (map (entry_param nodes.names) es) h q)
 
-pub param_held : (nodes : Nodes) (scope : Scope) (name : List ℕ) (ty : CType) → Finds (IsTyped nodes) (Some ty) (find (λ it. bytes_eq it.name name) scope.names) → TellsHeld nodes (Some (held.One ty)) (variable_held scope name)
+pub param_held : (nodes : Nodes) (scope : CScope) (name : List ℕ) (ty : CType) → Finds (IsTyped nodes) (Some ty) (find (λ it. bytes_eq it.name name) scope.names) → TellsHeld nodes (Some (held.One ty)) (variable_held scope name)
 param_held nodes scope name ty h = rw h.1 (ap (λ t. Some (by_name.one t)) h.2.same, h.2.has)
 
-text_held_by : (nodes : Nodes) (scope : Scope) (name : List ℕ) (text : Option TextDecl) → find (λ it. bytes_eq it.name name) scope.names ≡ None → find (λ it. bytes_eq it.name name) scope.texts ≡ text → is_some text ≡ true → TellsHeld nodes (Some held.Characters) (variable_held scope name)
+text_held_by : (nodes : Nodes) (scope : CScope) (name : List ℕ) (text : Option TextDecl) → find (λ it. bytes_eq it.name name) scope.names ≡ None → find (λ it. bytes_eq it.name name) scope.texts ≡ text → is_some text ≡ true → TellsHeld nodes (Some held.Characters) (variable_held scope name)
 text_held_by nodes scope name None h is some = absurd (cc (some))
 text_held_by nodes scope name (Some t) h is some = rw (h, is) (refl, tt)
 
-pub text_held : (nodes : Nodes) (scope : Scope) (name : List ℕ) → find (λ it. bytes_eq it.name name) scope.names ≡ None → is_some (find (λ it. bytes_eq it.name name) scope.texts) ≡ true → TellsHeld nodes (Some held.Characters) (variable_held scope name)
+pub text_held : (nodes : Nodes) (scope : CScope) (name : List ℕ) → find (λ it. bytes_eq it.name name) scope.names ≡ None → is_some (find (λ it. bytes_eq it.name name) scope.texts) ≡ true → TellsHeld nodes (Some held.Characters) (variable_held scope name)
 text_held nodes scope name h some = text_held_by nodes scope name (find (λ it. bytes_eq it.name name) scope.texts) h refl some
 
-none_held_by : (nodes : Nodes) (scope : Scope) (name : List ℕ) (text : Option TextDecl) → find (λ it. bytes_eq it.name name) scope.names ≡ None → find (λ it. bytes_eq it.name name) scope.texts ≡ text → is_some text ≡ false → TellsHeld nodes None (variable_held scope name)
+none_held_by : (nodes : Nodes) (scope : CScope) (name : List ℕ) (text : Option TextDecl) → find (λ it. bytes_eq it.name name) scope.names ≡ None → find (λ it. bytes_eq it.name name) scope.texts ≡ text → is_some text ≡ false → TellsHeld nodes None (variable_held scope name)
 none_held_by nodes scope name None h is none = rw (h, is) (refl, tt)
 none_held_by nodes scope name (Some t) h is none = absurd (cc (none))
 
-pub none_held : (nodes : Nodes) (scope : Scope) (name : List ℕ) → find (λ it. bytes_eq it.name name) scope.names ≡ None → is_some (find (λ it. bytes_eq it.name name) scope.texts) ≡ false → TellsHeld nodes None (variable_held scope name)
+pub none_held : (nodes : Nodes) (scope : CScope) (name : List ℕ) → find (λ it. bytes_eq it.name name) scope.names ≡ None → is_some (find (λ it. bytes_eq it.name name) scope.texts) ≡ false → TellsHeld nodes None (variable_held scope name)
 none_held nodes scope name h none = none_held_by nodes scope name (find (λ it. bytes_eq it.name name) scope.texts) h refl none
 
 -- The place of a name among the parameters and locals.

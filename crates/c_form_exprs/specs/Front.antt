@@ -7,7 +7,7 @@ use Rattle.c_text.specs.CTree.{FieldTree, ParamTree, ItemTree, text_item, functi
 use Rattle.c_text.specs.CNodes.{Nodes, unit_tree, type_in, field_tree, param_tree}
 use Rattle.c_text.specs.CFits.{HasType, HasField, HasParams}
 use Rattle.c_meaning.specs.CTypes as by_name
-use Rattle.c_meaning.specs.CTypes.{StructDecl, TextDecl, Function, Scope, structs_of, texts_of, functions_of, scope_of}
+use Rattle.c_meaning.specs.CTypes.{StructDecl, TextDecl, Function, CScope, structs_of, texts_of, functions_of, scope_of}
 use Rattle.c_form_exprs.specs.Tables.{named}
 use Rattle.c_form_exprs.specs.declared.front.Head.{Head}
 
@@ -29,7 +29,7 @@ abbrev pub entry_param : List (List ℕ) → List ℕ × CType → ParamTree
 entry_param names entry = record { kind = type_in names entry.1; name = entry.0 }
 
 -- What an expression may use.
-abbrev pub scope_in : Within → Scope
+abbrev pub scope_in : Within → CScope
 scope_in within = scope_of (front_items within.front) (map (entry_param within.front.nodes.names) within.names)
 
 -- The entries of a table are these declarations, in order, each by its name.

@@ -8,7 +8,7 @@ use Rattle.c_text.specs.declared.nodes.CArg.TheVariants as arg
 use Rattle.c_text.specs.CTree.{ExprTree, number, variable, member, element, pointed, operation, unary, cast, choice, called, ParamTree}
 use Rattle.c_text.specs.CNodes.{Nodes, expr_of}
 use Rattle.c_meaning.specs.CTypes as by_name
-use Rattle.c_meaning.specs.CTypes.{Scope, type_of, assignable}
+use Rattle.c_meaning.specs.CTypes.{CScope, type_of, assignable}
 use Rattle.c_form_exprs.specs.declared.types.ExprType.{ExprType}
 use Rattle.c_form_exprs.specs.TypeViews.{TellsType}
 
@@ -36,7 +36,7 @@ Spine nodes e [] base = base ≡ e
 Spine nodes e (x ∷ xs) base = (x ≡ e) × ((of : CExprId) × IsLink nodes x of × Spine nodes of xs base)
 
 -- The links that are left, and the type of what they lead to.
-pub record Climbs (nodes : Nodes) (scope : Scope) (e : CExprId) (links : List CExprId) (found : Option ExprType) : Type 0 where
+pub record Climbs (nodes : Nodes) (scope : CScope) (e : CExprId) (links : List CExprId) (found : Option ExprType) : Type 0 where
   pub at : CExprId
   pub spine : Spine nodes e links at
   pub told : TellsType nodes found (type_of scope (expr_of nodes at.0))
@@ -47,7 +47,7 @@ fits_type param None = false
 fits_type param (Some type) = assignable param.kind type
 
 -- The type of an argument.
-abbrev pub arg_type : Nodes → Scope → CArg → Option by_name.ExprType
+abbrev pub arg_type : Nodes → CScope → CArg → Option by_name.ExprType
 arg_type nodes scope (arg.Expr e) = type_of scope (expr_of nodes e.0)
 arg_type nodes scope (arg.SizeOf n) = None
 

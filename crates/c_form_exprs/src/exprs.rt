@@ -10,13 +10,13 @@ ghost use Rattle.c_form_exprs.specs.Front.{scope_in};
 ghost use Rattle.c_form_exprs.specs.Spines.{Climbs, link_of, fits_type, arg_type};
 ghost use Rattle.c_form_exprs.specs.TypeViews.{TellsType, TellsHeld, value_in, HasValue};
 
-use crate::scope::Scope;
+use crate::scope::CScope;
 use crate::types::{ExprType, Held};
 use c_text::{CArg, CCall, CExpr, CExprId, COp, CParam, CUnary};
 use wf_num::CTy;
 use wf_text::NoMemory;
 
-impl<'k, 'u> Scope<'k, 'u> {
+impl<'k, 'u> CScope<'k, 'u> {
     /// The type of an expression; None where it has none.
     #[cycle(expr_types)]
     pub fn type_of(&self, e: CExprId) -> Result<Option<ExprType>, NoMemory>

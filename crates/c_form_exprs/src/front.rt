@@ -1,11 +1,11 @@
 // What the first items of a unit declare.
 
-ghost use Rattle.std.specs.Prelude.{◌≡◌, ◌<◌, ◌+◌, length, map, slice_get, Some, is_some, find, option_map, option_and_then, IfOk, IfSome, OnOk};
+ghost use Rattle.std.specs.Prelude.{◌≡◌, ◌<◌, ◌+◌, length, map, slice_get, Some, is_some, find, option_and_then, IfOk, OnOk};
 ghost use Rattle.std.specs.Str.{bytes_eq};
-ghost use Rattle.c_text.specs.CNodes.{bytes_at, type_in, field_tree, param_tree, local_tree, expr_of, code_of, unit_tree};
-ghost use Rattle.c_text.specs.CFits.{HasName, HasType, HasField, HasFields, HasParams};
-ghost use Rattle.c_text.specs.CTree.{struct_item, text_item, function_item};
-ghost use Rattle.c_meaning.specs.CTypes.{structs_of, functions_of, texts_of, struct_named, function_named, field_named, is_expression};
+ghost use Rattle.c_text.specs.CNodes.{bytes_at, field_tree, unit_tree};
+ghost use Rattle.c_text.specs.CFits.{HasName, HasFields};
+ghost use Rattle.c_text.specs.CTree.{struct_item};
+ghost use Rattle.c_meaning.specs.CTypes.{structs_of, functions_of, texts_of, struct_named, function_named, field_named};
 ghost use Rattle.c_meaning.specs.UnitForm.{is_among, item_name};
 ghost use Rattle.c_form_exprs.specs.Front.{Finds, Tells, IsField, IsHead, IsNextText, IsNextFunction, front_items};
 

@@ -12,6 +12,6 @@ pub mod tables;
 pub mod types;
 
 pub use front::{Front, Head};
-pub use scope::Scope;
+pub use scope::CScope;
 pub use tables::NameTable;
 pub use types::{ExprType, Held, Target};

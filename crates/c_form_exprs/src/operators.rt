@@ -6,12 +6,12 @@ ghost use Rattle.c_text.specs.CFits.{HasType};
 ghost use Rattle.c_meaning.specs.CTypes.{as_number as number_of, arithmetic_type, left_type, sum_type, one_type as common_of_two, test_type, operation_type, assignable};
 ghost use Rattle.c_form_exprs.specs.TypeViews.{value_in, HasValue};
 
-use crate::scope::Scope;
+use crate::scope::CScope;
 use crate::types::{ExprType, common_type};
 use c_text::{COp, CType};
 use wf_num::CTy;
 
-impl<'k, 'u> Scope<'k, 'u> {
+impl<'k, 'u> CScope<'k, 'u> {
     /// The type of arithmetic (6.3.1.8).
     fn arithmetic(&self, a: ExprType, b: ExprType) -> Option<ExprType>
         ensures tells { option_map (value_in self.now.front.nodes.names) result ≡ arithmetic_type (number_of (value_in self.now.front.nodes.names a)) (number_of (value_in self.now.front.nodes.names b)) }

@@ -8,12 +8,12 @@ ghost use Rattle.c_meaning.specs.CTypes.{choice_type, unary_type, held_type, poi
 ghost use Rattle.c_form_exprs.specs.Spines.{Spine, link_of, IsLink, joined};
 ghost use Rattle.c_form_exprs.specs.TypeViews.{TellsType, TellsHeld, value_in, held_in, HasValue, HasHeld};
 
-use crate::scope::Scope;
+use crate::scope::CScope;
 use crate::types::{ExprType, Held};
 use c_text::{CExpr, CExprId, COp, CType};
 use wf_text::NoMemory;
 
-impl<'k, 'u> Scope<'k, 'u> {
+impl<'k, 'u> CScope<'k, 'u> {
     /// The part that stands at the front, of `of->field` and of `of[at]`.
     pub(crate) fn link(&self, e: CExprId) -> Option<CExprId>
         requires { e.0 < length self.now.front.nodes.exprs }

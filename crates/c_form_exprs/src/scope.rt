@@ -18,16 +18,16 @@ use std::marker::Model;
 use wf_text::NoMemory;
 
 /// What the items before a function declare, and the function's parameters and locals.
-pub struct Scope<'k, 'u> {
+pub struct CScope<'k, 'u> {
     front: &'k Front<'u>,
     unit: &'u Unit,
     names: NameTable<'u, CType>,
     alloc: Global,
 }
 
-impl<'k, 'u> Drop for Scope<'k, 'u> {
+impl<'k, 'u> Drop for CScope<'k, 'u> {
     fn drop(self) {
-        let Scope {
+        let CScope {
             front: _,
             unit: _,
             names: _,
@@ -36,7 +36,7 @@ impl<'k, 'u> Drop for Scope<'k, 'u> {
     }
 }
 
-impl<'k, 'u> Model for Scope<'k, 'u> {
+impl<'k, 'u> Model for CScope<'k, 'u> {
     ghost use Rattle.c_form_exprs.specs.Front.{Within, TellsNames};
 
     ghost Value = { Within };
@@ -46,12 +46,12 @@ impl<'k, 'u> Model for Scope<'k, 'u> {
     ghost invariant = { λ scope. TellsNames scope.front.now scope.unit.now scope.names };
 }
 
-impl<'k, 'u> Scope<'k, 'u> {
+impl<'k, 'u> CScope<'k, 'u> {
     /// The scope of a function without parameters and locals; nothing is allocated.
-    pub fn new(alloc: Global, front: &'k Front<'u>) -> Scope<'k, 'u>
+    pub fn new(alloc: Global, front: &'k Front<'u>) -> CScope<'k, 'u>
         ensures { result ≡ record { front = front.now; names = [] } }
     {
-        Scope {
+        CScope {
             front,
             unit: front.unit(),
             names: NameTable::new(alloc),

@@ -7,7 +7,7 @@ ghost use Rattle.c_meaning.specs.CTypes.{promoted as promotes, value_type as typ
 ghost use Rattle.c_meaning.specs.CValues.{common as common_of};
 ghost use Rattle.c_form_exprs.specs.TypeViews.{target_in, value_in, held_in, HasTarget, HasValue, HasHeld};
 
-use crate::scope::Scope;
+use crate::scope::CScope;
 use c_text::{CField, CFieldType, CNameId, CNumber, CType, CUint};
 use wf_num::CTy;
 
@@ -84,7 +84,7 @@ pub(crate) fn common_type(a: CTy, b: CTy) -> CTy
     }
 }
 
-impl<'k, 'u> Scope<'k, 'u> {
+impl<'k, 'u> CScope<'k, 'u> {
     /// The type of a value that is held.
     pub fn value_type(&self, ty: CType) -> ExprType
         ensures tells { value_in self.now.front.nodes.names result ≡ type_of_value (type_in self.now.front.nodes.names ty) }

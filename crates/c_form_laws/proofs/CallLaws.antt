@@ -3,7 +3,7 @@ use Rattle.std.proofs.Common.{◌≡◌, ◌<◌, ℕ, zero, suc, List, [], ◌�
 use Rattle.std.specs.Prelude.{bytes_eq}
 use Rattle.std.proofs.lemmas.Slice.Eq.{bytes_eq-Decides}
 use Rattle.c_text.specs.CTree.{ExprTree, Args, call, ItemTree, function_item}
-use Rattle.c_meaning.specs.CTypes.{Function, Scope, functions_of}
+use Rattle.c_meaning.specs.CTypes.{Function, CScope, functions_of}
 use Rattle.c_meaning.specs.CStep.{Callee, own, callee_of}
 use Rattle.c_meaning.specs.UnitForm.{item_name}
 use Rattle.c_form_stmts.specs.Lines.{line}
@@ -28,7 +28,7 @@ kept_function : (before : List ItemTree) (all : List (List ℕ)) (f : Function) 
 kept_function [] all f h = absurd (cc h)
 kept_function (x ∷ before) all f h = h.2
 
-called_before : (items : List ItemTree) (i : ℕ) (scope : Scope) → scope.functions ≡ functions_of (take i items) → (target : Option ExprTree) (name : List ℕ) (given : Args) (callee : Callee) → callee ≡ own → MayCall callee scope target name given
+called_before : (items : List ItemTree) (i : ℕ) (scope : CScope) → scope.functions ≡ functions_of (take i items) → (target : Option ExprTree) (name : List ℕ) (given : Args) (callee : Callee) → callee ≡ own → MayCall callee scope target name given
     → (j : ℕ) × (callee : Function) × (j < i) × IsFunctionAt items j callee × (callee.name ≡ name)
 called_before items i scope there target name given callee is h =
     let k = subst (λ (c : Callee). MayCall c scope target name given) is h in

@@ -9,7 +9,7 @@ use Rattle.c_text.specs.declared.kinds.CUnary.TheVariants.{Not, Complement, Addr
 use Rattle.c_text.specs.declared.kinds.Linkage.{Linkage}
 use Rattle.c_text.specs.declared.kinds.Linkage.TheVariants.{External, Static, StaticInline}
 use Rattle.c_text.specs.CTree.{TypeTree, ExprTree, number, variable, member, element, pointed, operation, unary, cast, choice, called, Operands, no_operand, operand, Args, no_arg, expr_arg, sizeof_arg, Code, finish, nested, empty, assign, call, jump, branch, repeat, select, leave, case_label, default_label, name_label, ParamTree, LocalTree, ItemTree, struct_item, text_item, function_item}
-use Rattle.c_meaning.specs.CTypes.{scope_of, texts_of, functions_of, Function, Scope, TextDecl, ExprType, numbers, Held, held_type, is_numeric, as_number, operation_type, operations_type, address_type, unary_type, cast_from, choice_type, one_type, passable, returned, no_locals, is_inline, gives_number, is_expression, result_of, called_type, function_named, variable_held, member_held, pointed_held, element_held, type_of, held_of, operand_types, arg_types}
+use Rattle.c_meaning.specs.CTypes.{scope_of, texts_of, functions_of, Function, CScope, TextDecl, ExprType, numbers, Held, held_type, is_numeric, as_number, operation_type, operations_type, address_type, unary_type, cast_from, choice_type, one_type, passable, returned, no_locals, is_inline, gives_number, is_expression, result_of, called_type, function_named, variable_held, member_held, pointed_held, element_held, type_of, held_of, operand_types, arg_types}
 use Rattle.c_form_laws.specs.Places.{At, Has}
 use Rattle.c_form_laws.specs.TypeRules.{IsNumeric}
 use Rattle.c_form_laws.specs.NameRules.{IsVariable, IsInlined, AreDeclared, OperandsDeclared, ArgsDeclared, NamesAreDeclared}
@@ -51,7 +51,7 @@ passed_typed (p ∷ ps) [] h = absurd (cc h)
 passed_typed (p ∷ ps) (None ∷ os) h = absurd (cc h)
 passed_typed (p ∷ ps) (Some t ∷ os) h = ((t, refl), passed_typed ps os (both_true _ (passable ps os) h).1)
 
-pub member_is : (scope : Scope) (field : List ℕ) (o : Option ExprType) (h : Held) → member_held scope field o ≡ Some h → Is o
+pub member_is : (scope : CScope) (field : List ℕ) (o : Option ExprType) (h : Held) → member_held scope field o ≡ Some h → Is o
 member_is scope field None h e = absurd (cc e)
 member_is scope field (Some t) h e = (t, refl)
 
@@ -201,7 +201,7 @@ choice_is test met unmet t h =
     ((a.0, a.1), ((b.0, b.1), ((d.0, d.1), a.2)))
 
 module _ (before : List ItemTree) (names : List ParamTree) where
-  abbrev scope : Scope
+  abbrev scope : CScope
   scope = scope_of before names
 
   mutual

@@ -11,7 +11,7 @@ use Rattle.c_text.specs.declared.kinds.CNumber.TheVariants as literal
 use Rattle.c_text.specs.declared.kinds.Linkage.{Linkage}
 use Rattle.c_text.specs.declared.kinds.Linkage.TheVariants.{External, Static, StaticInline}
 use Rattle.c_text.specs.CTree.{TypeTree, uint, size, boolean, uint_pointer, struct_pointer, text, ExprTree, variable, number, member, element, pointed, operation, unary, cast, choice, called, Args, no_arg, expr_arg, sizeof_arg, Code, finish, nested, empty, assign, call, jump, branch, repeat, select, leave, case_label, default_label, name_label, ParamTree}
-use Rattle.c_meaning.specs.CTypes.{Function, Scope, TextDecl, function_named, Target, cell, object, byte, ExprType, numbers, points_to, zero_literal, Held, one, fixed, many, inner, character, characters, value_type, as_number, assignable, passable, type_of, held_of, arg_types}
+use Rattle.c_meaning.specs.CTypes.{Function, CScope, TextDecl, function_named, Target, cell, object, byte, ExprType, numbers, points_to, zero_literal, Held, one, fixed, many, inner, character, characters, value_type, as_number, assignable, passable, type_of, held_of, arg_types}
 use Rattle.c_meaning.specs.CStep.{Callee, memory_move, memory_set, own, callee_of, stop}
 use Rattle.c_meaning.specs.UnitForm.{Checked, Cases, cases_of, labels_of, has_type, is_number, may_assign, is_moved, is_object_pointer, is_set, may_keep, is_called, formed_call, may_loop, formed_return, is_other_case, is_plain, plain_distinct, formed_cases, formed_code, all_distinct}
 use Rattle.c_form_stmts.specs.Lines.{LineTree, line}
@@ -136,7 +136,7 @@ kind_is boolean name = (λ h. absurd (cc h), λ h. absurd (let e = h.1 in cc e))
 kind_is (uint_pointer u) name = (λ h. absurd (cc h), λ h. absurd (let e = h.1 in cc e))
 kind_is text name = (λ h. absurd (cc h), λ h. absurd (let e = h.1 in cc e))
 
-pointer-decides : (scope : Scope) (name : List ℕ) → Decides (is_object_pointer (find (λ it. bytes_eq it.name name) scope.names)) (Points (type_of scope (variable name)))
+pointer-decides : (scope : CScope) (name : List ℕ) → Decides (is_object_pointer (find (λ it. bytes_eq it.name name) scope.names)) (Points (type_of scope (variable name)))
 pointer-decides scope name = by (find (λ it. bytes_eq it.name name) scope.names) refl (find (λ it. bytes_eq it.name name) scope.texts) refl
   where
     by : (o : Option ParamTree) → find (λ it. bytes_eq it.name name) scope.names ≡ o → (u : Option TextDecl) → find (λ it. bytes_eq it.name name) scope.texts ≡ u → Decides (is_object_pointer (find (λ it. bytes_eq it.name name) scope.names)) (Points (type_of scope (variable name)))
@@ -147,7 +147,7 @@ pointer-decides scope name = by (find (λ it. bytes_eq it.name name) scope.names
 abbrev set_of : List ℕ → ℕ → List ℕ → Args
 set_of name n same = expr_arg (variable name) (expr_arg (number (literal.Int n)) (sizeof_arg same no_arg))
 
-set_is : (scope : Scope) (name same : List ℕ) (n : ℕ) → Decides (is_set scope (set_of name n same)) (IsSet scope (set_of name n same))
+set_is : (scope : CScope) (name same : List ℕ) (n : ℕ) → Decides (is_set scope (set_of name n same)) (IsSet scope (set_of name n same))
 set_is scope name same n =
     Decides-like (nat_eq n 0 && (bytes_eq name same && is_object_pointer (find (λ it. bytes_eq it.name name) scope.names))) to from
     (Decides-and (nat_eq n 0) (bytes_eq name same && is_object_pointer (find (λ it. bytes_eq it.name name) scope.names)) (Decides-eqb n 0)
@@ -164,10 +164,10 @@ set_is scope name same n =
         let d : name ≡ same = cc e in
         (a, (d, (h.1, subst (λ (p : List ℕ). type_of scope (variable p) ≡ Some (points_to (object h.1))) b h.3)))
 
-not_set : (scope : Scope) (given : Args) → is_set scope given ≡ false → ((p : List ℕ) → given ≡ set_of p 0 p → ⊥) → Decides (is_set scope given) (IsSet scope given)
+not_set : (scope : CScope) (given : Args) → is_set scope given ≡ false → ((p : List ℕ) → given ≡ set_of p 0 p → ⊥) → Decides (is_set scope given) (IsSet scope given)
 not_set scope given none other = (λ h. absurd (cc (h, none)), λ h. absurd (other h.0 h.2))
 
-set-decides : (scope : Scope) (given : Args) → Decides (is_set scope given) (IsSet scope given)
+set-decides : (scope : CScope) (given : Args) → Decides (is_set scope given) (IsSet scope given)
 set-decides scope no_arg = not_set scope no_arg refl (λ p e. cc e)
 set-decides scope (sizeof_arg same given) = not_set scope (sizeof_arg same given) refl (λ p e. cc e)
 set-decides scope (expr_arg (number n) given) = not_set scope (expr_arg (number n) given) refl (λ p e. cc e)
@@ -397,7 +397,7 @@ body-decides c differ = (λ h. by_number ((by_lines.0) (sym listed ∙ h)), λ h
     from_number h i l e = let none : i ≡ 0 + i = omega arith in subst (λ (n : ℕ). KeepsStatement c (statements c.body) n l.switched l.code) none (h i l e)
 
 -- What goes to a local at its begin.
-pub begins-decides : (scope : Scope) (t : TypeTree) (e : ExprTree) → Decides (may_assign (Some (one t)) (type_of scope e)) (GoesTo scope t e)
+pub begins-decides : (scope : CScope) (t : TypeTree) (e : ExprTree) → Decides (may_assign (Some (one t)) (type_of scope e)) (GoesTo scope t e)
 begins-decides scope t e = goes-decides t (type_of scope e)
 
 -- The labels of a body.

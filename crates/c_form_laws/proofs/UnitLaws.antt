@@ -10,7 +10,7 @@ use Rattle.c_text.specs.declared.kinds.CNumber.{CNumber}
 use Rattle.c_text.specs.declared.kinds.Linkage.{Linkage}
 use Rattle.c_text.specs.declared.kinds.Linkage.TheVariants.{External, Static, StaticInline}
 use Rattle.c_text.specs.CTree.{TypeTree, ExprTree, Code, FieldKind, plain, inside, FieldTree, ParamTree, LocalTree, ItemTree, struct_item, text_item, function_item}
-use Rattle.c_meaning.specs.CTypes.{Scope, structs_of, scope_of, local_name, io_buffer, is_known, same_type}
+use Rattle.c_meaning.specs.CTypes.{CScope, structs_of, scope_of, local_name, io_buffer, is_known, same_type}
 use Rattle.c_meaning.specs.CStep.{stop}
 use Rattle.c_meaning.specs.CRun.{struct_name}
 use Rattle.c_meaning.specs.UnitForm.{is_among, all_distinct, item_name, is_library, formed_field, formed_fields, is_field, are_fields, io_buffer_fields, is_io_buffer, Checked, labels_of, formed_code, formed_initial, formed_locals, is_result, checked, own_names as formed_names, formed_function, formed_content, Signature, signatures, same_params, same_result, is_external, has_signature, is_struct, meets_signature, meets_struct, meets_surface, free_name, formed_item}
@@ -46,7 +46,7 @@ pub append_none : {A : Type 0} (xs : List A) → xs ++ [] ≡ xs
 append_none [] = refl
 append_none (x ∷ xs) = ap (λ ys. x ∷ ys) (append_none xs)
 
-begin-decides : (scope : Scope) (t : TypeTree) (o : Option ExprTree) → Decides (formed_initial scope t o) (MayBegin scope t o)
+begin-decides : (scope : CScope) (t : TypeTree) (o : Option ExprTree) → Decides (formed_initial scope t o) (MayBegin scope t o)
 begin-decides scope t None = (λ _. tt, λ _. refl)
 begin-decides scope t (Some e) = begins-decides scope t e
 

@@ -3,7 +3,7 @@
 use Rattle.std.specs.Prelude.{◌≡◌, ◌⊎◌, ℕ, ⊤, List, [], map, Some}
 use Rattle.c_text.specs.declared.kinds.Linkage.TheVariants.{StaticInline}
 use Rattle.c_text.specs.CTree.{TypeTree, ExprTree, number, variable, member, element, pointed, operation, unary, cast, choice, called, Operands, no_operand, operand, Args, no_arg, expr_arg, sizeof_arg, finish, leave, ParamTree, ItemTree, text_item, function_item}
-use Rattle.c_meaning.specs.CTypes.{Scope, scope_of, Held, held_of}
+use Rattle.c_meaning.specs.CTypes.{CScope, scope_of, Held, held_of}
 use Rattle.c_form_laws.specs.Places.{Has, Each}
 use Rattle.c_form_laws.specs.TypeRules.{IsNumeric}
 use Rattle.c_form_laws.specs.StatementRules.{HasType}
@@ -43,7 +43,7 @@ abbrev mutual
   ArgsDeclared before names (sizeof_arg name others) = ⊥
 
 -- The expression stands for something that holds values (6.3.2.1p1).
-abbrev pub IsLvalue : Scope → ExprTree → Type 0
+abbrev pub IsLvalue : CScope → ExprTree → Type 0
 IsLvalue scope e = (h : Held) × (held_of scope e ≡ Some h)
 
 abbrev pub NamesAreDeclared : Type 0

@@ -7,7 +7,7 @@ use Rattle.c_text.specs.declared.kinds.CNumber.TheVariants as literal
 use Rattle.c_text.specs.declared.kinds.Linkage.{Linkage}
 use Rattle.c_text.specs.declared.kinds.Linkage.TheVariants.{Static}
 use Rattle.c_text.specs.CTree.{TypeTree, ExprTree, variable, number, Args, no_arg, expr_arg, sizeof_arg, Code, finish, nested, empty, assign, call, jump, branch, repeat, select, leave, case_label, default_label, name_label, ParamTree}
-use Rattle.c_meaning.specs.CTypes.{Function, Scope, function_named, cell, object, byte, Target, ExprType, points_to, one, value_type, as_number, type_of, held_of, arg_types}
+use Rattle.c_meaning.specs.CTypes.{Function, CScope, function_named, cell, object, byte, Target, ExprType, points_to, one, value_type, as_number, type_of, held_of, arg_types}
 use Rattle.c_meaning.specs.CStep.{Callee, memory_move, memory_set, own, callee_of}
 use Rattle.c_meaning.specs.UnitForm.{Checked}
 use Rattle.c_form_stmts.specs.Lines.{LineTree, line, lines_of}
@@ -24,23 +24,23 @@ abbrev pub IsNumber : ExprType → Type 0
 IsNumber t = (n : CTy) × (as_number t ≡ Some n)
 
 -- The expression has a type: its names are declared, and its operators fit their operands (6.5).
-abbrev pub HasType : Scope → ExprTree → Type 0
+abbrev pub HasType : CScope → ExprTree → Type 0
 HasType scope e = (t : ExprType) × (type_of scope e ≡ Some t)
 
 -- The expression is a number (6.2.5p18).
-abbrev pub HasNumber : Scope → ExprTree → Type 0
+abbrev pub HasNumber : CScope → ExprTree → Type 0
 HasNumber scope e = (t : ExprType) × (type_of scope e ≡ Some t) × IsNumber t
 
 -- The expression may go to a target of this type (6.5.16.1).
-abbrev pub GoesTo : Scope → TypeTree → ExprTree → Type 0
+abbrev pub GoesTo : CScope → TypeTree → ExprTree → Type 0
 GoesTo scope t e = (v : ExprType) × (type_of scope e ≡ Some v) × Fits t v
 
 -- The lvalue is a cell of this type that may be assigned (6.5.16).
-abbrev pub IsCell : Scope → ExprTree → TypeTree → Type 0
+abbrev pub IsCell : CScope → ExprTree → TypeTree → Type 0
 IsCell scope target t = held_of scope target ≡ Some (one t)
 
 -- An assignment (6.5.16).
-abbrev pub MayAssign : Scope → (target value : ExprTree) → Type 0
+abbrev pub MayAssign : CScope → (target value : ExprTree) → Type 0
 MayAssign scope target value = (t : TypeTree) × IsCell scope target t × GoesTo scope t value
 
 -- A pointer that isn't to a struct.
@@ -54,7 +54,7 @@ abbrev pub IsMove : List (Option ExprType) → Type 0
 IsMove given = (t : TypeTree) × (from : Target) × (n : ExprType) × (given ≡ Some (points_to (cell t)) ∷ Some (points_to from) ∷ Some n ∷ []) × IsToBytes from × IsNumber n
 
 -- `memset(p, 0, sizeof(*p))`, where `p` points to a struct (7.21.6.1).
-abbrev pub IsSet : Scope → Args → Type 0
+abbrev pub IsSet : CScope → Args → Type 0
 IsSet scope given =
     (p struct : List ℕ) × (given ≡ expr_arg (variable p) (expr_arg (number (literal.Int 0)) (sizeof_arg p no_arg))) × (type_of scope (variable p) ≡ Some (points_to (object struct)))
 
@@ -63,13 +63,13 @@ abbrev pub ArePassed : List ParamTree → List (Option ExprType) → Type 0
 ArePassed params given = (length params ≡ length given) × Each (λ i p. (t : ExprType) × At given i (Some t) × Fits p.kind t) params
 
 -- What a call answers goes to the target, where there is one (6.5.16).
-abbrev pub MayKeep : Scope → (target : Option ExprTree) → (result : Option TypeTree) → Type 0
+abbrev pub MayKeep : CScope → (target : Option ExprTree) → (result : Option TypeTree) → Type 0
 MayKeep scope None result = ⊤
 MayKeep scope (Some target) None = ⊥
 MayKeep scope (Some target) (Some result) = (t : TypeTree) × IsCell scope target t × Fits t (value_type result)
 
 -- A call is of `memmove`, of `memset`, or of a function that was declared before (6.5.2.2).
-abbrev pub MayCall : Callee → Scope → (target : Option ExprTree) → (name : List ℕ) → Args → Type 0
+abbrev pub MayCall : Callee → CScope → (target : Option ExprTree) → (name : List ℕ) → Args → Type 0
 MayCall memory_move scope target name given = (target ≡ None) × IsMove (arg_types scope given)
 MayCall memory_set scope target name given = (target ≡ None) × IsSet scope given
 MayCall own scope target name given =
@@ -112,8 +112,8 @@ pub record AreCases (all : List LineTree) : Type 0 where
   pub differ : (i j : ℕ) (n : CNumber) → IsCase all i n → IsCase all j n → i ≡ j
   pub default : (i j : ℕ) → IsDefault all i → IsDefault all j → i ≡ j
 
--- A `return` has an expression exactly where the function isn't `void` (6.8.6.4p1).
-abbrev pub MayReturn : Scope → (value : Option ExprTree) → (result : Option TypeTree) → Type 0
+-- After `return` stands an expression, but none in a `void` function (6.8.6.4p1).
+abbrev pub MayReturn : CScope → (value : Option ExprTree) → (result : Option TypeTree) → Type 0
 MayReturn scope None None = ⊤
 MayReturn scope (Some e) (Some t) = GoesTo scope t e
 MayReturn scope value result = ⊥

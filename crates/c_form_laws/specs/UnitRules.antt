@@ -6,7 +6,7 @@ use Rattle.c_text.specs.declared.kinds.CUint.TheVariants.{U8, U64}
 use Rattle.c_text.specs.declared.kinds.Linkage.{Linkage}
 use Rattle.c_text.specs.declared.kinds.Linkage.TheVariants.{External}
 use Rattle.c_text.specs.CTree.{TypeTree, uint, size, boolean, uint_pointer, ExprTree, Code, plain, FieldTree, ParamTree, LocalTree, ItemTree, struct_item, text_item, function_item}
-use Rattle.c_meaning.specs.CTypes.{Scope, scope_of, local_name, io_buffer}
+use Rattle.c_meaning.specs.CTypes.{CScope, scope_of, local_name, io_buffer}
 use Rattle.c_meaning.specs.CRun.{struct_name}
 use Rattle.c_meaning.specs.UnitForm.{Signature, signatures, item_name, checked}
 use Rattle.c_form_laws.specs.Places.{At, Has, Each, AllDiffer}
@@ -40,7 +40,7 @@ abbrev pub IsOwnName : (all : List (List ℕ)) → List ℕ → Type 0
 IsOwnName all name = (Has all name → ⊥) × (IsLibrary name → ⊥)
 
 -- An initial value may go to its local (6.7.8p11).
-abbrev pub MayBegin : Scope → TypeTree → Option ExprTree → Type 0
+abbrev pub MayBegin : CScope → TypeTree → Option ExprTree → Type 0
 MayBegin scope t None = ⊤
 MayBegin scope t (Some e) = GoesTo scope t e
 

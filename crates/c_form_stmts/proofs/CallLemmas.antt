@@ -6,7 +6,7 @@ use Rattle.c_text.specs.declared.nodes.CArg.{CArg}
 use Rattle.c_text.specs.declared.nodes.CArg.TheVariants as arg
 use Rattle.c_text.specs.CTree.{ExprTree, number, variable, member, element, pointed, operation, unary, cast, choice, called, Args, no_arg, expr_arg, sizeof_arg}
 use Rattle.c_text.specs.CNodes.{Nodes, bytes_at, expr_of, args_in}
-use Rattle.c_meaning.specs.CTypes.{Scope, ExprType, numbers, points_to, zero_literal, cell, object, byte, arg_types}
+use Rattle.c_meaning.specs.CTypes.{CScope, ExprType, numbers, points_to, zero_literal, cell, object, byte, arg_types}
 use Rattle.c_meaning.specs.UnitForm.{is_moved, is_set, is_object_pointer}
 use Rattle.c_form_stmts.specs.Statements.{name_in, is_zero_literal}
 
@@ -51,15 +51,15 @@ moved_apart (t ∷ u ∷ []) apart = moved_two t u
 moved_apart (t ∷ u ∷ v ∷ []) apart = absurd (apart refl)
 moved_apart (t ∷ u ∷ v ∷ w ∷ ts) apart = moved_more t u v w ts
 
-args_length : (nodes : Nodes) (scope : Scope) (given : List CArg) → length (arg_types scope (args_in nodes.names (expr_of nodes) given)) ≡ length given
+args_length : (nodes : Nodes) (scope : CScope) (given : List CArg) → length (arg_types scope (args_in nodes.names (expr_of nodes) given)) ≡ length given
 args_length nodes scope [] = refl
 args_length nodes scope (arg.Expr e ∷ given) = ap suc (args_length nodes scope given)
 args_length nodes scope (arg.SizeOf n ∷ given) = ap suc (args_length nodes scope given)
 
-pub moved_other : (nodes : Nodes) (scope : Scope) (given : List CArg) → (length given ≡ 3 → ⊥) → false ≡ is_moved (arg_types scope (args_in nodes.names (expr_of nodes) given))
+pub moved_other : (nodes : Nodes) (scope : CScope) (given : List CArg) → (length given ≡ 3 → ⊥) → false ≡ is_moved (arg_types scope (args_in nodes.names (expr_of nodes) given))
 moved_other nodes scope given apart = sym (moved_apart (arg_types scope (args_in nodes.names (expr_of nodes) given)) (λ same. apart (sym (args_length nodes scope given) ∙ same)))
 
-set_one : (scope : Scope) (x : ExprTree) → is_set scope (expr_arg x no_arg) ≡ false
+set_one : (scope : CScope) (x : ExprTree) → is_set scope (expr_arg x no_arg) ≡ false
 set_one scope (number n1) = refl
 set_one scope (variable n1) = refl
 set_one scope (member a1 n1) = refl
@@ -71,7 +71,7 @@ set_one scope (cast t1 a1) = refl
 set_one scope (choice a1 b1 d1) = refl
 set_one scope (called n1 as_1) = refl
 
-set_two : (scope : Scope) (x y : ExprTree) → is_set scope (expr_arg x (expr_arg y no_arg)) ≡ false
+set_two : (scope : CScope) (x y : ExprTree) → is_set scope (expr_arg x (expr_arg y no_arg)) ≡ false
 set_two scope (number n1) y = refl
 set_two scope (variable n1) (number (literal.Int z)) = refl
 set_two scope (variable n1) (number (literal.Unsigned z)) = refl
@@ -94,7 +94,7 @@ set_two scope (cast t1 a1) y = refl
 set_two scope (choice a1 b1 d1) y = refl
 set_two scope (called n1 as_1) y = refl
 
-set_more : (scope : Scope) (x y : ExprTree) (same : List ℕ) (more : Args) → (more ≡ no_arg → ⊥) → is_set scope (expr_arg x (expr_arg y (sizeof_arg same more))) ≡ false
+set_more : (scope : CScope) (x y : ExprTree) (same : List ℕ) (more : Args) → (more ≡ no_arg → ⊥) → is_set scope (expr_arg x (expr_arg y (sizeof_arg same more))) ≡ false
 set_more scope (number n1) y same more apart = refl
 set_more scope (variable n1) (number (literal.Int z)) same no_arg apart = absurd (apart refl)
 set_more scope (variable n1) (number (literal.Int z)) same (expr_arg w others) apart = refl
@@ -119,7 +119,7 @@ set_more scope (cast t1 a1) y same more apart = refl
 set_more scope (choice a1 b1 d1) y same more apart = refl
 set_more scope (called n1 as_1) y same more apart = refl
 
-set_size : (scope : Scope) (x : ExprTree) (same : List ℕ) (more : Args) → is_set scope (expr_arg x (sizeof_arg same more)) ≡ false
+set_size : (scope : CScope) (x : ExprTree) (same : List ℕ) (more : Args) → is_set scope (expr_arg x (sizeof_arg same more)) ≡ false
 set_size scope (number n1) same more = refl
 set_size scope (variable n1) same more = refl
 set_size scope (member a1 n1) same more = refl
@@ -131,7 +131,7 @@ set_size scope (cast t1 a1) same more = refl
 set_size scope (choice a1 b1 d1) same more = refl
 set_size scope (called n1 as_1) same more = refl
 
-set_expr : (scope : Scope) (x y w : ExprTree) (more : Args) → is_set scope (expr_arg x (expr_arg y (expr_arg w more))) ≡ false
+set_expr : (scope : CScope) (x y w : ExprTree) (more : Args) → is_set scope (expr_arg x (expr_arg y (expr_arg w more))) ≡ false
 set_expr scope (number n1) y w more = refl
 set_expr scope (variable n1) (number (literal.Int z)) w more = refl
 set_expr scope (variable n1) (number (literal.Unsigned z)) w more = refl
@@ -161,7 +161,7 @@ some_args : (nodes : Nodes) (a : CArg) (given : List CArg) → left_args nodes (
 some_args nodes (arg.Expr e) given is = absurd (cc (is))
 some_args nodes (arg.SizeOf n) given is = absurd (cc (is))
 
-set_apart : (nodes : Nodes) (scope : Scope) (given : List CArg) → (length given ≡ 3 → ⊥) → is_set scope (left_args nodes given) ≡ false
+set_apart : (nodes : Nodes) (scope : CScope) (given : List CArg) → (length given ≡ 3 → ⊥) → is_set scope (left_args nodes given) ≡ false
 set_apart nodes scope [] apart = refl
 set_apart nodes scope (arg.SizeOf n ∷ given) apart = refl
 set_apart nodes scope (arg.Expr e ∷ []) apart = set_one scope (expr_of nodes e.0)
@@ -171,14 +171,14 @@ set_apart nodes scope (arg.Expr e ∷ arg.Expr f ∷ arg.Expr g ∷ given) apart
 set_apart nodes scope (arg.Expr e ∷ arg.Expr f ∷ arg.SizeOf n ∷ []) apart = absurd (apart refl)
 set_apart nodes scope (arg.Expr e ∷ arg.Expr f ∷ arg.SizeOf n ∷ a ∷ given) apart = set_more scope (expr_of nodes e.0) (expr_of nodes f.0) (bytes_at nodes.names n.0) (left_args nodes (a ∷ given)) (some_args nodes a given)
 
-pub set_other : (nodes : Nodes) (scope : Scope) (given : List CArg) → (length given ≡ 3 → ⊥) → false ≡ is_set scope (args_in nodes.names (expr_of nodes) given)
+pub set_other : (nodes : Nodes) (scope : CScope) (given : List CArg) → (length given ≡ 3 → ⊥) → false ≡ is_set scope (args_in nodes.names (expr_of nodes) given)
 set_other nodes scope given apart = sym (set_apart nodes scope given apart)
 
-named_set : (scope : Scope) (n name same : List ℕ) (z : ℕ) (p : Bool) → name ≡ n → nat_eq z 0 ≡ true → bytes_eq name same ≡ true → p ≡ is_object_pointer (find (λ it. bytes_eq it.name name) scope.names) → p ≡ is_set scope (expr_arg (variable n) (expr_arg (number (literal.Int z)) (sizeof_arg same no_arg)))
+named_set : (scope : CScope) (n name same : List ℕ) (z : ℕ) (p : Bool) → name ≡ n → nat_eq z 0 ≡ true → bytes_eq name same ≡ true → p ≡ is_object_pointer (find (λ it. bytes_eq it.name name) scope.names) → p ≡ is_set scope (expr_arg (variable n) (expr_arg (number (literal.Int z)) (sizeof_arg same no_arg)))
 named_set scope n name same z p is zero alike points = rw (← is, zero, alike) points
 
 -- `memset` of a name, a literal and a `sizeof`.
-pub set_by : (scope : Scope) (x y : ExprTree) (name same : List ℕ) (p : Bool) → Some name ≡ name_in x → is_zero_literal y ≡ true → bytes_eq name same ≡ true → p ≡ is_object_pointer (find (λ it. bytes_eq it.name name) scope.names) → p ≡ is_set scope (expr_arg x (expr_arg y (sizeof_arg same no_arg)))
+pub set_by : (scope : CScope) (x y : ExprTree) (name same : List ℕ) (p : Bool) → Some name ≡ name_in x → is_zero_literal y ≡ true → bytes_eq name same ≡ true → p ≡ is_object_pointer (find (λ it. bytes_eq it.name name) scope.names) → p ≡ is_set scope (expr_arg x (expr_arg y (sizeof_arg same no_arg)))
 set_by scope (number n1) y name same p named zero alike points = absurd (cc (named))
 set_by scope (variable n1) (number (literal.Int z)) name same p named zero alike points = named_set scope n1 name same z p (cc (named)) zero alike points
 set_by scope (variable n1) (number (literal.Unsigned z)) name same p named zero alike points = absurd (cc (zero))

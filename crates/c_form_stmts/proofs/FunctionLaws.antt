@@ -6,7 +6,7 @@ use Rattle.std.proofs.lemmas.List.{map-append}
 use Rattle.std.proofs.lemmas.List.Folds.{list_all-append}
 use Rattle.c_text.specs.declared.kinds.Linkage.{Linkage}
 use Rattle.c_text.specs.CTree.{TypeTree, Code, ParamTree, LocalTree, ItemTree}
-use Rattle.c_meaning.specs.CTypes.{Scope, local_name, is_known, structs_of, scope_of}
+use Rattle.c_meaning.specs.CTypes.{CScope, local_name, is_known, structs_of, scope_of}
 use Rattle.c_meaning.specs.UnitForm.{is_among, all_distinct, is_library, is_result, own_names, formed_locals, Checked, checked, formed_function}
 use Rattle.c_form_stmts.specs.Names.{are_new, is_own, with_names, params_fit, locals_fit}
 use Rattle.c_text.specs.CNodes.{type_in, param_tree, local_tree, expr_of, code_of}
@@ -102,7 +102,7 @@ module _ (front : Front) (all : List (List ℕ)) (taken : List ℕ → Bool) (is
       at1 = front1 met ∙ ap (λ (w : Within). w.front) first
 
       told_second : (f : Bool) → f ≡ locals_fit taken (scope_in s1) (map (local_tree s1.front.nodes.names (expr_of s1.front.nodes)) parts.locals.now) → locals_fit taken (scope_of (front_items front) params_in) locals_in ≡ f
-      told_second f h = sym (h ∙ (ap (λ (sc : Scope). locals_fit taken sc (map (local_tree s1.front.nodes.names (expr_of s1.front.nodes)) parts.locals.now)) scope1 ∙ ap (λ (fr : Front). locals_fit taken (scope_of (front_items front) params_in) (map (local_tree fr.nodes.names (expr_of fr.nodes)) parts.locals.now)) at1))
+      told_second f h = sym (h ∙ (ap (λ (sc : CScope). locals_fit taken sc (map (local_tree s1.front.nodes.names (expr_of s1.front.nodes)) parts.locals.now)) scope1 ∙ ap (λ (fr : Front). locals_fit taken (scope_of (front_items front) params_in) (map (local_tree fr.nodes.names (expr_of fr.nodes)) parts.locals.now)) at1))
 
       pub no_locals : (f : Bool) → f ≡ false → f ≡ locals_fit taken (scope_in s1) (map (local_tree s1.front.nodes.names (expr_of s1.front.nodes)) parts.locals.now) → false ≡ formed_parts front all parts
       no_locals f isnt h = sym (parts_by true true false (sym result_is) (told_first p params_are ∙ met) (told_second f h ∙ isnt))
@@ -110,7 +110,7 @@ module _ (front : Front) (all : List (List ℕ)) (taken : List ℕ → Bool) (is
       pub body_left : (s2 : Within) (l : Bool) → l ≡ true → l ≡ locals_fit taken (scope_in s1) (map (local_tree s1.front.nodes.names (expr_of s1.front.nodes)) parts.locals.now) → (l ≡ true → s2.front ≡ s1.front) → (l ≡ true → scope_in s2 ≡ with_names (scope_in s1) (map local_name (map (local_tree s1.front.nodes.names (expr_of s1.front.nodes)) parts.locals.now))) → formed_body (record { scope = scope_in s2; linkage = parts.linkage; result_type = option_map (type_in s2.front.nodes.names) parts.result_type; body = code_of s2.front.nodes parts.body.0 }) ≡ formed_parts front all parts
       body_left s2 l done locals_are front2 added2 =
           let at2 : s2.front ≡ front = front2 done ∙ at1 in
-          let scope2 : scope_in s2 ≡ scope_of (front_items front) (params_in ++ map local_name locals_in) = added2 done ∙ (ap (λ (sc : Scope). with_names sc (map local_name (map (local_tree s1.front.nodes.names (expr_of s1.front.nodes)) parts.locals.now))) scope1 ∙ ap (λ (fr : Front). with_names (scope_of (front_items front) params_in) (map local_name (map (local_tree fr.nodes.names (expr_of fr.nodes)) parts.locals.now))) at1) in
-          ap (λ (sc : Scope). formed_body (record { scope = sc; linkage = parts.linkage; result_type = option_map (type_in s2.front.nodes.names) parts.result_type; body = code_of s2.front.nodes parts.body.0 })) scope2
+          let scope2 : scope_in s2 ≡ scope_of (front_items front) (params_in ++ map local_name locals_in) = added2 done ∙ (ap (λ (sc : CScope). with_names sc (map local_name (map (local_tree s1.front.nodes.names (expr_of s1.front.nodes)) parts.locals.now))) scope1 ∙ ap (λ (fr : Front). with_names (scope_of (front_items front) params_in) (map local_name (map (local_tree fr.nodes.names (expr_of fr.nodes)) parts.locals.now))) at1) in
+          ap (λ (sc : CScope). formed_body (record { scope = sc; linkage = parts.linkage; result_type = option_map (type_in s2.front.nodes.names) parts.result_type; body = code_of s2.front.nodes parts.body.0 })) scope2
           ∙ (ap (λ (fr : Front). formed_body (record { scope = scope_of (front_items front) (params_in ++ map local_name locals_in); linkage = parts.linkage; result_type = option_map (type_in fr.nodes.names) parts.result_type; body = code_of fr.nodes parts.body.0 })) at2
           ∙ sym (parts_by true true true (sym result_is) (told_first p params_are ∙ met) (told_second l locals_are ∙ done)))

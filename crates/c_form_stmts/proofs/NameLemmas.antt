@@ -7,7 +7,7 @@ use Rattle.std.proofs.lemmas.List.Folds.{list_any-append}
 use Rattle.wf_text.specs.declared.faults.NoMemory.{NoMemory}
 use Rattle.c_text.specs.declared.nodes.CType.{CType}
 use Rattle.c_text.specs.CTree.{ParamTree, LocalTree}
-use Rattle.c_meaning.specs.CTypes.{Scope, local_name, is_known}
+use Rattle.c_meaning.specs.CTypes.{CScope, local_name, is_known}
 use Rattle.c_meaning.specs.UnitForm.{is_among, all_distinct, is_library, formed_initial, formed_locals}
 use Rattle.c_form_exprs.specs.Front.{entry_param}
 use Rattle.c_form_exprs.specs.Tables.{named}
@@ -90,7 +90,7 @@ new_append seen [] ys = ap (λ zs. are_new zs ys) (sym (append-nil seen))
 new_append seen (x ∷ xs) ys = ap (λ b. not (is_among seen x) && b) (new_append (seen ++ x ∷ []) xs ys ∙ ap (λ zs. are_new (seen ++ x ∷ []) xs && are_new zs ys) (append_assoc seen (x ∷ []) xs)) ∙ and_in (not (is_among seen x)) (are_new (seen ++ x ∷ []) xs) (are_new (seen ++ x ∷ xs) ys)
 
 -- The parameters of a function, and its locals, by what each asks.
-abbrev pub names_in : Scope → List (List ℕ)
+abbrev pub names_in : CScope → List (List ℕ)
 names_in scope = map (λ it. it.name) scope.names
 
 names_end : (ps : List ParamTree) (p : ParamTree) → map (λ (it : ParamTree). it.name) (ps ++ p ∷ []) ≡ map (λ it. it.name) ps ++ p.name ∷ []
@@ -106,7 +106,7 @@ params_step true false n true o' n' = refl
 params_step true false n false o' n' = refl
 params_step false o n k' o' n' = refl
 
-pub params_by : (taken : List ℕ → Bool) (scope : Scope) (ps : List ParamTree) → params_fit taken scope ps ≡ (list_all (λ p. is_known scope.structs p.kind) ps && (list_all (λ p. is_own taken p.name) ps && are_new (names_in scope) (map (λ it. it.name) ps)))
+pub params_by : (taken : List ℕ → Bool) (scope : CScope) (ps : List ParamTree) → params_fit taken scope ps ≡ (list_all (λ p. is_known scope.structs p.kind) ps && (list_all (λ p. is_own taken p.name) ps && are_new (names_in scope) (map (λ it. it.name) ps)))
 params_by taken scope [] = refl
 params_by taken scope (p ∷ ps) =
     ap (λ b. is_addable taken scope p && b) (params_by taken (with_name scope p) ps ∙ ap (λ xs. list_all (λ q. is_known scope.structs q.kind) ps && (list_all (λ q. is_own taken q.name) ps && are_new xs (map (λ it. it.name) ps))) (names_end scope.names p))
@@ -123,14 +123,14 @@ locals_step true false o n f o' n' = refl
 locals_step false true o n f o' n' = refl
 locals_step false false o n f o' n' = refl
 
-pub locals_by : (taken : List ℕ → Bool) (scope : Scope) (ls : List LocalTree) → locals_fit taken scope ls ≡ (formed_locals scope ls && (list_all (λ p. is_own taken p.name) (map local_name ls) && are_new (names_in scope) (map (λ it. it.name) (map local_name ls))))
+pub locals_by : (taken : List ℕ → Bool) (scope : CScope) (ls : List LocalTree) → locals_fit taken scope ls ≡ (formed_locals scope ls && (list_all (λ p. is_own taken p.name) (map local_name ls) && are_new (names_in scope) (map (λ it. it.name) (map local_name ls))))
 locals_by taken scope [] = refl
 locals_by taken scope (l ∷ ls) =
     ap (λ b. is_local taken scope l && b) (locals_by taken (with_name scope (local_name l)) ls ∙ ap (λ xs. formed_locals (with_name scope (local_name l)) ls && (list_all (λ q. is_own taken q.name) (map local_name ls) && are_new xs (map (λ it. it.name) (map local_name ls)))) (names_end scope.names (local_name l)))
     ∙ locals_step (formed_initial scope l.kind l.initial) (is_known scope.structs l.kind) (is_own taken l.name) (not (is_among (names_in scope) l.name)) (formed_locals (with_name scope (local_name l)) ls) (list_all (λ q. is_own taken q.name) (map local_name ls)) (are_new (names_in scope ++ l.name ∷ []) (map (λ it. it.name) (map local_name ls)))
 
 -- A name is added where its type is known and it is neither taken nor there.
-pub declared_fits : (r : Result Bool NoMemory) (taken : List ℕ → Bool) (scope : Scope) (names : List (List ℕ)) (es : List (List ℕ × CType)) (p : ParamTree) → scope.names ≡ map (entry_param names) es → IfOk r (λ fresh. fresh ≡ is_none (named es p.name)) → is_known scope.structs p.kind ≡ true → taken p.name ≡ false → is_library p.name ≡ false → IfOk r (λ fits. fits ≡ is_addable taken scope p)
+pub declared_fits : (r : Result Bool NoMemory) (taken : List ℕ → Bool) (scope : CScope) (names : List (List ℕ)) (es : List (List ℕ × CType)) (p : ParamTree) → scope.names ≡ map (entry_param names) es → IfOk r (λ fresh. fresh ≡ is_none (named es p.name)) → is_known scope.structs p.kind ≡ true → taken p.name ≡ false → is_library p.name ≡ false → IfOk r (λ fits. fits ≡ is_addable taken scope p)
 declared_fits (Err fault) taken scope names es p is fresh known own library = tt
 declared_fits (Ok fits) taken scope names es p is fresh known own library =
     let among : not (is_among (map (λ it. it.name) scope.names) p.name) ≡ is_none (named es p.name) = ap (λ (ps : List ParamTree). not (is_among (map (λ it. it.name) ps) p.name)) is ∙ (ap (λ ns. not (is_among ns p.name)) (entry_names names es) ∙ sym (named_among es p.name)) in

@@ -1,15 +1,15 @@
 // A call as a statement (ISO/IEC 9899:1999, 6.5.2.2, 7.21.2.2, 7.21.6.1).
 
-ghost use Rattle.std.specs.Prelude.{◌≡◌, ◌<◌, [], ◌∷◌, length, map, option_map, find, IfOk, IfSome};
+ghost use Rattle.std.specs.Prelude.{◌≡◌, ◌<◌, [], ◌∷◌, length, option_map, find, IfOk, IfSome};
 ghost use Rattle.std.specs.Str.{bytes_eq};
 ghost use Rattle.c_text.specs.CNodes.{bytes_at, type_in, value_in, args_in, expr_of};
 ghost use Rattle.c_text.specs.CFits.{HasName, HasType, HasArg, HasArgs, HasCall};
-ghost use Rattle.c_meaning.specs.CTypes.{value_type as type_of_value, arg_types, function_named};
+ghost use Rattle.c_meaning.specs.CTypes.{arg_types, function_named};
 ghost use Rattle.c_meaning.specs.CStep.{callee_of};
 ghost use Rattle.c_meaning.specs.UnitForm.{is_library as is_library_name, is_number as is_number_type, is_moved, is_set as is_set_given, is_object_pointer, may_keep, is_called, formed_call};
-ghost use Rattle.c_form_exprs.specs.Front.{scope_in, Finds, IsHead};
+ghost use Rattle.c_form_exprs.specs.Front.{scope_in};
 ghost use Rattle.c_form_exprs.specs.Spines.{arg_type as type_of_arg};
-ghost use Rattle.c_form_exprs.specs.TypeViews.{TellsType, value_in as value_type_in, HasValue};
+ghost use Rattle.c_form_exprs.specs.TypeViews.{TellsType, value_in as value_type_in};
 ghost use Rattle.c_form_stmts.specs.Statements.{checked_in, name_in, is_zero_literal};
 
 use crate::statements::Frame;

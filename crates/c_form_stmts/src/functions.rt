@@ -1,12 +1,11 @@
 // The parts of a function: its names, the initial values of its locals, and its body (ISO/IEC 9899:1999, 6.9.1).
 
-ghost use Rattle.std.specs.Prelude.{◌≡◌, ◌<◌, ◌++◌, [], ◌∷◌, ℕ, List, length, map, is_some, option_map, true, IfOk, IfSome};
+ghost use Rattle.std.specs.Prelude.{◌≡◌, ◌<◌, ℕ, List, length, map, is_some, option_map, true, IfOk, IfSome};
 ghost use Rattle.c_text.specs.CNodes.{bytes_at, type_in, value_in, param_tree, local_tree, expr_of, code_of};
-ghost use Rattle.c_text.specs.CFits.{HasName, HasType, HasParam, HasParams, HasLocal, HasLocals};
+ghost use Rattle.c_text.specs.CFits.{HasName, HasType, HasParams, HasLocal, HasLocals};
 ghost use Rattle.c_meaning.specs.CTypes.{local_name};
-ghost use Rattle.c_meaning.specs.UnitForm.{is_among, is_result as is_result_type, formed_initial, formed_function};
-ghost use Rattle.c_form_exprs.specs.Front.{scope_in, front_items};
-ghost use Rattle.c_form_exprs.specs.Tables.{named};
+ghost use Rattle.c_meaning.specs.UnitForm.{is_among, is_result as is_result_type, formed_initial};
+ghost use Rattle.c_form_exprs.specs.Front.{scope_in};
 ghost use Rattle.c_form_stmts.specs.Names.{is_addable, with_name, with_names, params_fit, is_local, locals_fit, is_in};
 ghost use Rattle.c_form_stmts.specs.Functions.{HasParts, formed_parts, formed_body};
 
@@ -14,7 +13,7 @@ use crate::calls::is_library;
 use crate::labels::labels;
 use crate::lines::lines;
 use crate::statements::Frame;
-use c_form_exprs::{Front, NameTable, Scope};
+use c_form_exprs::{CScope, Front, NameTable};
 use c_text::{CExprId, CLocal, CNameId, CParam, CStmtId, CType, Linkage};
 use std::alloc::Global;
 use wf_text::NoMemory;
@@ -51,7 +50,7 @@ fn is_result(result_type: Option<CType>) -> bool
 
 /// Adds a parameter or local to the scope, where it can be.
 fn add<'k, 'u>(
-    scope: &mut Scope<'k, 'u>,
+    scope: &mut CScope<'k, 'u>,
     items: &NameTable<'u, usize>,
     name: CNameId,
     kind: CType,
@@ -77,7 +76,7 @@ fn add<'k, 'u>(
 
 /// Adds the parameters to the scope, where they can be.
 fn add_params<'k, 'u>(
-    scope: &mut Scope<'k, 'u>,
+    scope: &mut CScope<'k, 'u>,
     items: &NameTable<'u, usize>,
     params: &[CParam],
 ) -> Result<bool, NoMemory>
@@ -96,7 +95,7 @@ fn add_params<'k, 'u>(
 
 /// Whether the initial value of a local is formed (6.7.8p11).
 fn is_initial(
-    scope: &Scope<'_, '_>,
+    scope: &CScope<'_, '_>,
     kind: CType,
     initial: Option<CExprId>,
 ) -> Result<bool, NoMemory>
@@ -115,7 +114,7 @@ fn is_initial(
 
 /// Adds a local to the scope, where it can be and its initial value is formed.
 fn add_local<'k, 'u>(
-    scope: &mut Scope<'k, 'u>,
+    scope: &mut CScope<'k, 'u>,
     items: &NameTable<'u, usize>,
     local: CLocal,
 ) -> Result<bool, NoMemory>
@@ -133,7 +132,7 @@ fn add_local<'k, 'u>(
 
 /// Adds the locals to the scope, where they can be and their initial values are formed.
 fn add_locals<'k, 'u>(
-    scope: &mut Scope<'k, 'u>,
+    scope: &mut CScope<'k, 'u>,
     items: &NameTable<'u, usize>,
     locals: &[CLocal],
 ) -> Result<bool, NoMemory>
@@ -153,7 +152,7 @@ fn add_locals<'k, 'u>(
 /// Whether the statements of a function are formed.
 fn is_formed_body(
     alloc: Global,
-    scope: &Scope<'_, '_>,
+    scope: &CScope<'_, '_>,
     linkage: Linkage,
     result_type: Option<CType>,
     body: CStmtId,
@@ -192,7 +191,7 @@ pub fn is_formed_function<'u>(
     if !is_result(parts.result_type) {
         return Ok(false);
     }
-    let mut scope = Scope::new(alloc, front);
+    let mut scope = CScope::new(alloc, front);
     if !add_params(&mut scope, items, parts.params)? {
         return Ok(false);
     }

@@ -1,6 +1,6 @@
 // The labels of a function's body (ISO/IEC 9899:1999, 6.8.1).
 
-ghost use Rattle.std.specs.Prelude.{◌≡◌, ◌<◌, ◌∷◌, ℕ, Bool, List, [], length, map, option_map, IfOk, IfSome, MatchOption, false, true};
+ghost use Rattle.std.specs.Prelude.{◌≡◌, ◌<◌, ◌∷◌, ℕ, Bool, List, length, map, option_map, IfOk, IfSome, MatchOption, false, true};
 ghost use Rattle.c_text.specs.CNodes.{bytes_at, code_of};
 ghost use Rattle.c_text.specs.CFits.{HasName};
 ghost use Rattle.c_meaning.specs.UnitForm.{all_distinct};

@@ -1,7 +1,7 @@
 // The statements of a body in the order of the text: blocks are gone through by a list of what is left, whatever the
 // depth of their nesting and the length of a chain of `else if`.
 
-ghost use Rattle.std.specs.Prelude.{◌≡◌, ◌<◌, ◌≤◌, ◌+◌, ◌*◌, ◌++◌, ◌∷◌, [], ℕ, Bool, false, length, map, IfOk, OnOk, if◌then◌else◌};
+ghost use Rattle.std.specs.Prelude.{◌≡◌, ◌<◌, ◌≤◌, ◌+◌, ◌++◌, Bool, false, length, map, IfOk, OnOk};
 ghost use Rattle.c_text.specs.CNodes.{code_of};
 ghost use Rattle.c_text.specs.CBlocks.{HasBlocks, blocks_in};
 ghost use Rattle.c_form_stmts.specs.Lines.{lines_of, line_in, HasLine, HasLines, left_of, line_size, size_of, inner_lines, inner_size};

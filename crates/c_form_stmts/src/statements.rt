@@ -1,7 +1,7 @@
 // One statement of a function against the names and types that it may use (ISO/IEC 9899:1999, 6.8).
 
-ghost use Rattle.std.specs.Prelude.{◌≡◌, ◌<◌, ◌&&◌, length, map, drop, is_some, option_map, Some, IfOk, IfSome};
-ghost use Rattle.c_text.specs.CNodes.{bytes_at, type_in, value_in, expr_of, code_of};
+ghost use Rattle.std.specs.Prelude.{◌≡◌, ◌<◌, length, map, drop, is_some, Some, IfOk, IfSome};
+ghost use Rattle.c_text.specs.CNodes.{bytes_at, type_in, value_in, expr_of};
 ghost use Rattle.c_text.specs.CFits.{HasName, HasType};
 ghost use Rattle.c_meaning.specs.CTypes.{one, type_of as expr_type, held_of as expr_held};
 ghost use Rattle.c_meaning.specs.UnitForm.{is_number as is_number_type, may_assign, may_loop as may_loop_linkage, formed_return};
@@ -12,7 +12,7 @@ ghost use Rattle.c_form_stmts.specs.Statements.{checked_in, goes_to, formed_line
 
 use crate::cases::has_formed_cases;
 use crate::lines::Line;
-use c_form_exprs::{Held, NameTable, Scope};
+use c_form_exprs::{CScope, Held, NameTable};
 use c_text::{CExprId, CNameId, CStmt, CType, Linkage};
 use std::marker::Model;
 use wf_text::NoMemory;
@@ -20,7 +20,7 @@ use wf_text::NoMemory;
 /// What the statements of a function are checked against.
 pub(crate) struct Frame<'c, 'k, 'u> {
     /// The names that the function may use.
-    pub scope: &'c Scope<'k, 'u>,
+    pub scope: &'c CScope<'k, 'u>,
     /// Where the function can be called from.
     pub linkage: Linkage,
     /// The type of the result; none for `void`.
@@ -114,7 +114,7 @@ impl<'c, 'k, 'u> Frame<'c, 'k, 'u> {
         }
     }
 
-    /// Whether the function may have a `while`, or a `goto` to a label before it.
+    /// Whether a `while`, and a `goto` that goes back, may stand in the function.
     fn may_loop(&self) -> bool
         ensures { result ≡ may_loop_linkage self.now.linkage }
     {

@@ -9,7 +9,7 @@ use Rattle.wf_text.specs.HostActions.{Receiver}
 use Rattle.wf_text.specs.Seen.{Answer}
 use Rattle.wf_base.specs.HostRun.{Host, empty_host, HostCall, answers}
 use Rattle.wf_base.specs.LawfulActions.{called_method}
-use Rattle.c_meaning.specs.CValues.{Value}
+use Rattle.c_meaning.specs.CValues.{CValue}
 use Rattle.c_meaning.specs.CMemory.{Object, Memory}
 use Rattle.c_meaning.specs.CStep.{Returned}
 use Rattle.c_meaning.specs.CCall.{Program, host_call}
@@ -47,7 +47,7 @@ init_typed : (it : Loaded) (memory : Memory) (k n : ℕ) → IsTyped memory → 
 init_typed it memory k n typed =
     let P : Memory → Type 0 = λ after. StaysTyped memory after in
     let Q : Returned → Type 0 = λ done. StaysTyped memory done.memory in
-    let R : Value → Type 0 = λ _. Unit {0} in
+    let R : CValue → Type 0 = λ _. Unit {0} in
     and_then_leaves P (struct_of it k) _ (λ s. map_leaves P R (slice_get it.pointers k) _ (any (slice_get it.pointers k))
     (λ receiver r. response_leaves P Q (init_ended it (length memory)) (host_call it.program (initialize_name it.surface s) n (receiver ∷ []) memory)
     (out_typed memory (host_call it.program (initialize_name it.surface s) n (receiver ∷ []) memory) ((call_typed it.program (initialize_name it.surface s)).by n (receiver ∷ []) memory typed))
@@ -62,7 +62,7 @@ call_leaves_typed it memory called host n typed =
     let P : Memory × Host → Type 0 = λ after. StaysTyped memory after.0 in
     let most : ℕ = most_args it.surface.structs in
     let Q : Returned → Type 0 = λ done. StaysTyped (call_memory host memory most called.args) done.memory in
-    let R : Value → Type 0 = λ _. Unit {0} in
+    let R : CValue → Type 0 = λ _. Unit {0} in
     and_then_leaves P (struct_of it called.receiver) _ (λ s. and_then_leaves P (called_method it.surface it.receivers called) _ (λ method. map_leaves P R (slice_get it.pointers called.receiver) _ (any (slice_get it.pointers called.receiver))
     (λ receiver r. response_leaves P Q (call_ended it memory method called host most) (host_call it.program (function_name it.surface s method.name) n (receiver ∷ all_values host (length memory) (length memory + most) called.args) (call_memory host memory most called.args))
     (out_typed (call_memory host memory most called.args) (host_call it.program (function_name it.surface s method.name) n (receiver ∷ all_values host (length memory) (length memory + most) called.args) (call_memory host memory most called.args))

@@ -7,7 +7,7 @@ use Rattle.turns.proofs.Unfolds.{unfolds}
 use Rattle.c_text.specs.declared.kinds.Linkage.{Linkage}
 use Rattle.c_text.specs.declared.kinds.Linkage.TheVariants.{External, Static, StaticInline}
 use Rattle.c_text.specs.CTree.{ExprTree, Code, finish, nested, empty, assign, call, jump, branch, repeat, select, leave, case_label, default_label, name_label, LocalTree}
-use Rattle.c_meaning.specs.CValues.{Pointer, Value, numeric, address, null_pointer, holds}
+use Rattle.c_meaning.specs.CValues.{Pointer, CValue, numeric, address, null_pointer, holds}
 use Rattle.c_meaning.specs.CMemory.{Object, Memory, stored, move_bytes, zeroed}
 use Rattle.c_meaning.specs.CTypes.{Function}
 use Rattle.c_meaning.specs.CExprs.{value, place, pointed_place, arg_values, all_some}
@@ -29,15 +29,15 @@ pub record IsKept (Fit : Memory → Type 0) (R : Memory → Memory → Type 0) :
   pub same : (memory : Memory) → Fit memory → R memory memory
   pub chain : (a b c : Memory) → R a b → R b c → R a c
   pub fit : (a b : Memory) → Fit a → R a b → Fit b
-  pub stores : (memory : Memory) → Fit memory → (p : Pointer) (v : Value) → LeftBy R memory (stored memory p v)
+  pub stores : (memory : Memory) → Fit memory → (p : Pointer) (v : CValue) → LeftBy R memory (stored memory p v)
   pub moves : (memory : Memory) → Fit memory → (to from : Pointer) (n : ℕ) → LeftBy R memory (move_bytes memory to from n)
   pub sets : (memory : Memory) → Fit memory → (object : ℕ) → LeftBy R memory (zeroed memory object)
-  pub enters : (memory : Memory) → Fit memory → (f : Function) (given : List Value) (object : Object) → frame_object f given ≡ Some object → Fit (memory ++ object ∷ [])
+  pub enters : (memory : Memory) → Fit memory → (f : Function) (given : List CValue) (object : Object) → frame_object f given ≡ Some object → Fit (memory ++ object ∷ [])
   pub exits : (memory : Memory) → Fit memory → (object : Object) (now : Memory) → R (memory ++ object ∷ []) now → R memory (take (length memory) now)
 
 module _ (Fit : Memory → Type 0) (R : Memory → Memory → Type 0) (is_kept : IsKept Fit R) where
   pub record MeaningBy (meaning : Meaning) : Type 0 where
-    pub by : (n : ℕ) (given : List Value) (memory : Memory) → Fit memory → OutBy R memory (meaning n given memory)
+    pub by : (n : ℕ) (given : List CValue) (memory : Memory) → Fit memory → OutBy R memory (meaning n given memory)
 
   abbrev NextBy : Memory → Next State Returned → Type 0
   NextBy before (Go s) = R before s.memory
@@ -63,7 +63,7 @@ module _ (Fit : Memory → Type 0) (R : Memory → Memory → Type 0) (is_kept :
       if_by true met unmet h k = h
       if_by false met unmet h k = k
 
-      by_test_by : (o : Option Value) (met unmet : Next State Returned) → NextBy memory met → NextBy memory unmet → NextBy memory (by_test o met unmet)
+      by_test_by : (o : Option CValue) (met unmet : Next State Returned) → NextBy memory met → NextBy memory unmet → NextBy memory (by_test o met unmet)
       by_test_by None met unmet h k = tt
       by_test_by (Some v) met unmet h k = if_by (holds v) met unmet h k
 
@@ -83,13 +83,13 @@ module _ (Fit : Memory → Type 0) (R : Memory → Memory → Type 0) (is_kept :
       enters_by None rest k = same
       enters_by (Some p) rest k = same
 
-      switches_by : (o : Option Value) (body rest : Code) (k : Continuation) → NextBy memory (switches o body rest k memory)
+      switches_by : (o : Option CValue) (body rest : Code) (k : Continuation) → NextBy memory (switches o body rest k memory)
       switches_by None body rest k = tt
       switches_by (Some (numeric n)) body rest k = enters_by (first_of (find (by_case n) body (behind finish rest k)) (find by_default body (behind finish rest k))) rest k
       switches_by (Some (address p)) body rest k = tt
       switches_by (Some null_pointer) body rest k = tt
 
-      assigned_by : (p : Option Pointer) (v : Option Value) → LeftBy R memory (assigned memory p v)
+      assigned_by : (p : Option Pointer) (v : Option CValue) → LeftBy R memory (assigned memory p v)
       assigned_by None v = tt
       assigned_by (Some p) None = tt
       assigned_by (Some p) (Some v) = is_kept.stores memory ready p v
@@ -100,7 +100,7 @@ module _ (Fit : Memory → Type 0) (R : Memory → Memory → Type 0) (is_kept :
       moves_by (Some to) (Some from) None = tt
       moves_by (Some to) (Some from) (Some n) = is_kept.moves memory ready to from n
 
-      move_given_by : (given : List (Option Value)) → LeftBy R memory (move_given memory given)
+      move_given_by : (given : List (Option CValue)) → LeftBy R memory (move_given memory given)
       move_given_by [] = tt
       move_given_by (a ∷ []) = tt
       move_given_by (a ∷ b ∷ []) = tt
@@ -115,7 +115,7 @@ module _ (Fit : Memory → Type 0) (R : Memory → Memory → Type 0) (is_kept :
           by_index true = is_kept.sets memory ready p.object
           by_index false = tt
 
-      set_given_by : (given : List (Option Value)) → LeftBy R memory (set_given memory given)
+      set_given_by : (given : List (Option CValue)) → LeftBy R memory (set_given memory given)
       set_given_by [] = tt
       set_given_by (a ∷ others) = zeroes_by (pointed_place a)
 
@@ -123,11 +123,11 @@ module _ (Fit : Memory → Type 0) (R : Memory → Memory → Type 0) (is_kept :
       kept_by None done h = h
       kept_by (Some target) done h = left_then memory done.memory _ h (by_value done.value)
         where
-          by_place : (v : Value) (p : Option Pointer) → LeftBy R done.memory (option_and_then (λ q. stored done.memory q v) p)
+          by_place : (v : CValue) (p : Option Pointer) → LeftBy R done.memory (option_and_then (λ q. stored done.memory q v) p)
           by_place v None = tt
           by_place v (Some p) = is_kept.stores done.memory (is_kept.fit memory done.memory ready h) p v
 
-          by_value : (v : Option Value) → LeftBy R done.memory (option_and_then (λ v. option_and_then (λ p. stored done.memory p v) (one_place (place (surroundings r memory) target) (place (surroundings r done.memory) target))) v)
+          by_value : (v : Option CValue) → LeftBy R done.memory (option_and_then (λ v. option_and_then (λ p. stored done.memory p v) (one_place (place (surroundings r memory) target) (place (surroundings r done.memory) target))) v)
           by_value None = tt
           by_value (Some v) = by_place v (one_place (place (surroundings r memory) target) (place (surroundings r done.memory) target))
 
@@ -142,16 +142,16 @@ module _ (Fit : Memory → Type 0) (R : Memory → Memory → Type 0) (is_kept :
       holding_by More on h f = tt
       holding_by Lost on h f = tt
 
-      calls_by : (n : ℕ) (target : Option ExprTree) (meaning : Meaning) (given : Option (List Value)) (rest : Code) (k : Continuation) → MeaningBy meaning → NextBy memory (calls r n target meaning given rest k memory)
+      calls_by : (n : ℕ) (target : Option ExprTree) (meaning : Meaning) (given : Option (List CValue)) (rest : Code) (k : Continuation) → MeaningBy meaning → NextBy memory (calls r n target meaning given rest k memory)
       calls_by n target meaning None rest k h = tt
       calls_by n target meaning (Some given) rest k h = holding_by (meaning n given memory) _ (h.by n given memory ready) (λ left done a. goes_back_by n left rest k (kept r memory target done) (kept_by target done a))
 
-      calls_function_by : (c : Callee) (n : ℕ) (target : Option ExprTree) (name : List ℕ) (given : List (Option Value)) (rest : Code) (k : Continuation) → NextBy memory (calls_function c r n target name given rest k memory)
+      calls_function_by : (c : Callee) (n : ℕ) (target : Option ExprTree) (name : List ℕ) (given : List (Option CValue)) (rest : Code) (k : Continuation) → NextBy memory (calls_function c r n target name given rest k memory)
       calls_function_by memory_move n target name given rest k = goes_on_by rest k (move_given memory given) (move_given_by given)
       calls_function_by memory_set n target name given rest k = goes_on_by rest k (set_given memory given) (set_given_by given)
       calls_function_by own n target name given rest k = calls_by n target (r.callee name) (all_some given) rest k (callees name)
 
-      returns_by : (n : ℕ) (v : Option Value) → NextBy memory (returns n memory v)
+      returns_by : (n : ℕ) (v : Option CValue) → NextBy memory (returns n memory v)
       returns_by n None = tt
       returns_by n (Some v) = same
 
@@ -204,7 +204,7 @@ module _ (Fit : Memory → Type 0) (R : Memory → Memory → Type 0) (is_kept :
     initial_by memory ready field None = is_kept.same memory ready
     initial_by memory ready field (Some e) = by_value (value (surroundings r memory) e)
       where
-        by_value : (v : Option Value) → LeftBy R memory (option_and_then (stored memory (record { object = r.frame; field = field; index = 0 })) v)
+        by_value : (v : Option CValue) → LeftBy R memory (option_and_then (stored memory (record { object = r.frame; field = field; index = 0 })) v)
         by_value None = tt
         by_value (Some v) = is_kept.stores memory ready (record { object = r.frame; field = field; index = 0 }) v
 
@@ -225,7 +225,7 @@ module _ (Fit : Memory → Type 0) (R : Memory → Memory → Type 0) (is_kept :
     without_by memory ready object More h = tt
     without_by memory ready object Lost h = tt
 
-    started_by : (f : Function) (given : List Value) (memory : Memory) → Fit memory → (n : ℕ) → OutBy R memory (started r f given memory n)
+    started_by : (f : Function) (given : List CValue) (memory : Memory) → Fit memory → (n : ℕ) → OutBy R memory (started r f given memory n)
     started_by f given memory ready n = by_object (frame_object f given) refl
       where
         by_object : (o : Option Object) → frame_object f given ≡ o → OutBy R memory (without_frame (length memory) (body_run r f n (option_and_then (λ fields. initialized r (length f.params) f.locals (memory ++ fields ∷ [])) o)))

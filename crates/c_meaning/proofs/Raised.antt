@@ -10,7 +10,7 @@ use Rattle.c_text.specs.declared.kinds.Linkage.TheVariants.{External, Static, St
 use Rattle.c_text.specs.CTree.{ExprTree, Code, finish, nested, empty, assign, call, jump, branch, repeat, select, leave, case_label, default_label, name_label}
 use Rattle.wf_base.specs.HostRun.{Host, HostCall, Response, answers, needs_more, not_defined}
 use Rattle.wf_base.specs.LawfulActions.{called_method}
-use Rattle.c_meaning.specs.CValues.{Value, numeric, address, null_pointer, holds}
+use Rattle.c_meaning.specs.CValues.{CValue, numeric, address, null_pointer, holds}
 use Rattle.c_meaning.specs.CMemory.{Memory}
 use Rattle.c_meaning.specs.CTypes.{Function}
 use Rattle.c_meaning.specs.CExprs.{value, place, all_some, arg_values}
@@ -20,7 +20,7 @@ use Rattle.c_meaning.specs.CRun.{Loaded, response, defined, struct_of, init_ende
 use Rattle.c_meaning.proofs.Weights.{step_falls}
 
 pub record Raises (meaning : Meaning) : Type 0 where
-  pub by : (n more : ℕ) (given : List Value) (memory : Memory) → IsRaisedTo more (meaning n given memory) (meaning (n + more) given memory)
+  pub by : (n more : ℕ) (given : List CValue) (memory : Memory) → IsRaisedTo more (meaning n given memory) (meaning (n + more) given memory)
 
 abbrev Up : ℕ → Next State Returned → Next State Returned → Type 0
 Up more next other = IsRaised more next other
@@ -34,7 +34,7 @@ module _ (more : ℕ) where
   if_up true met unmet met' unmet' h k = h
   if_up false met unmet met' unmet' h k = k
 
-  by_test_up : (o : Option Value) (met unmet met' unmet' : Next State Returned) → Up more met met' → Up more unmet unmet' → Up more (by_test o met unmet) (by_test o met' unmet')
+  by_test_up : (o : Option CValue) (met unmet met' unmet' : Next State Returned) → Up more met met' → Up more unmet unmet' → Up more (by_test o met unmet) (by_test o met' unmet')
   by_test_up None met unmet met' unmet' h k = refl
   by_test_up (Some v) met unmet met' unmet' h k = if_up (holds v) met unmet met' unmet' h k
 
@@ -54,7 +54,7 @@ module _ (more : ℕ) where
   enters_up None rest k memory = refl
   enters_up (Some p) rest k memory = refl
 
-  switches_up : (o : Option Value) (body rest : Code) (k : Continuation) (memory : Memory) → Up more (switches o body rest k memory) (switches o body rest k memory)
+  switches_up : (o : Option CValue) (body rest : Code) (k : Continuation) (memory : Memory) → Up more (switches o body rest k memory) (switches o body rest k memory)
   switches_up None body rest k memory = refl
   switches_up (Some (address p)) body rest k memory = refl
   switches_up (Some null_pointer) body rest k memory = refl
@@ -81,18 +81,18 @@ module _ (more : ℕ) where
   holding_up More o' on on' e h = tt
   holding_up Lost o' on on' e h = rw e refl
 
-  calls_up : (r : Running) (n : ℕ) (target : Option ExprTree) (meaning : Meaning) (given : Option (List Value)) (rest : Code) (k : Continuation) (memory : Memory) → Raises meaning
+  calls_up : (r : Running) (n : ℕ) (target : Option ExprTree) (meaning : Meaning) (given : Option (List CValue)) (rest : Code) (k : Continuation) (memory : Memory) → Raises meaning
       → Up more (calls r n target meaning given rest k memory) (calls r (n + more) target meaning given rest k memory)
   calls_up r n target meaning None rest k memory h = refl
   calls_up r n target meaning (Some given) rest k memory h = holding_up (meaning n given memory) (meaning (n + more) given memory) _ _ (h.by n more given memory) (λ left done. goes_back_up n left rest k (kept r memory target done))
 
-  calls_function_up : (c : Callee) (r : Running) (n : ℕ) (target : Option ExprTree) (name : List ℕ) (given : List (Option Value)) (rest : Code) (k : Continuation) (memory : Memory) → Raises (r.callee name)
+  calls_function_up : (c : Callee) (r : Running) (n : ℕ) (target : Option ExprTree) (name : List ℕ) (given : List (Option CValue)) (rest : Code) (k : Continuation) (memory : Memory) → Raises (r.callee name)
       → Up more (calls_function c r n target name given rest k memory) (calls_function c r (n + more) target name given rest k memory)
   calls_function_up memory_move r n target name given rest k memory h = goes_on_up rest k (move_given memory given)
   calls_function_up memory_set r n target name given rest k memory h = goes_on_up rest k (set_given memory given)
   calls_function_up own r n target name given rest k memory h = calls_up r n target (r.callee name) (all_some given) rest k memory h
 
-  returns_up : (n : ℕ) (memory : Memory) (o : Option Value) → Up more (returns n memory o) (returns (n + more) memory o)
+  returns_up : (n : ℕ) (memory : Memory) (o : Option CValue) → Up more (returns n memory o) (returns (n + more) memory o)
   returns_up n memory None = refl
   returns_up n memory (Some v) = refl
 
@@ -195,12 +195,12 @@ same_answered r other h a after e = let P : Response _ → Type 0 = λ x. Same x
 pub same_undefined : {A : Type 0} (r other : Response A) → Same r other → r ≡ not_defined → other ≡ not_defined
 same_undefined r other h e = let P : Response _ → Type 0 = λ x. Same x other in subst P e h
 
-pub returned_more : (p : Program) (name : List ℕ) (n more left : ℕ) (given : List Value) (memory : Memory) (done : Returned)
+pub returned_more : (p : Program) (name : List ℕ) (n more left : ℕ) (given : List CValue) (memory : Memory) (done : Returned)
     → host_call p name n given memory ≡ Got left done → host_call p name (n + more) given memory ≡ Got (left + more) done
 returned_more p name n more left given memory done e =
     let P : Outcome Returned → Type 0 = λ o. IsRaisedTo more o (host_call p name (n + more) given memory) in subst P e ((call_raises p p.functions name).by n more given memory)
 
-pub undefined_more : (p : Program) (name : List ℕ) (n more : ℕ) (given : List Value) (memory : Memory)
+pub undefined_more : (p : Program) (name : List ℕ) (n more : ℕ) (given : List CValue) (memory : Memory)
     → host_call p name n given memory ≡ Lost → host_call p name (n + more) given memory ≡ Lost
 undefined_more p name n more given memory e =
     let P : Outcome Returned → Type 0 = λ o. IsRaisedTo more o (host_call p name (n + more) given memory) in subst P e ((call_raises p p.functions name).by n more given memory)

@@ -7,7 +7,7 @@ use Rattle.c_text.specs.declared.kinds.COp.{COp}
 use Rattle.c_text.specs.declared.kinds.COp.TheVariants.{Add}
 use Rattle.c_text.specs.declared.kinds.CUnary.TheVariants.{Not, Complement, Address}
 use Rattle.c_text.specs.CTree.{TypeTree, ExprTree, number, variable, member, element, pointed, operation, unary, cast, choice, called, Args, no_arg, expr_arg, sizeof_arg}
-use Rattle.c_meaning.specs.CValues.{Number, Pointer, to_object, Value, numeric, address, null_pointer, whole, holds, operated, compared_places}
+use Rattle.c_meaning.specs.CValues.{Number, Pointer, to_object, CValue, numeric, address, null_pointer, whole, holds, operated, compared_places}
 use Rattle.c_meaning.specs.CMemory.{CellType, u8, u16, u32, u64, flag, pointer, Cell, num, null, at, unset, Field, cells, part, Object, Memory, cell_of, value_of, field_at, cells_of, cells_at, cell_at, part_of, loaded, offset, offset_object, moved_in}
 use Rattle.c_meaning.specs.CTypes.{ExprType, numbers, points_to, zero_literal, Held, one, fixed, many, inner, character, characters, type_of, held_of, variable_held, member_held, element_held, pointed_held, choice_type}
 use Rattle.c_meaning.specs.CExprs.{Surroundings, cell_type, as_type, named_place, variable_place, field_place, field_number, pointed_place, member_place, element_place, held_value, address_of, truth_value, and_also, or_else, moved_pointer, sum_value, other_value, Combination, conjunction, disjunction, addition, other, combination_of, combined_by, combined, from_left, is_object_pointer, complement_of, chosen, as_expr_type, choice_value, all_some, value, place, operand_values, arg_values}
@@ -18,15 +18,15 @@ module _ (inside : ℕ → Bool) where
   PointerIn None = Unit {0}
   PointerIn (Some p) = inside p.object ≡ true
 
-  abbrev pub OptIn : Option Value → Type 0
+  abbrev pub OptIn : Option CValue → Type 0
   OptIn None = Unit {0}
   OptIn (Some v) = ValueIn inside v
 
-  abbrev pub OptsIn : List (Option Value) → Type 0
+  abbrev pub OptsIn : List (Option CValue) → Type 0
   OptsIn [] = Unit {0}
   OptsIn (v ∷ vs) = OptIn v × OptsIn vs
 
-  abbrev pub ListIn : Option (List Value) → Type 0
+  abbrev pub ListIn : Option (List CValue) → Type 0
   ListIn None = Unit {0}
   ListIn (Some vs) = ValuesIn inside vs
 
@@ -110,7 +110,7 @@ module _ (inside : ℕ → Bool) where
   value_of_in pointer (at p) h = h
   value_of_in pointer unset h = tt
 
-  pub cell_of_in : (type : CellType) (v : Value) → ValueIn inside v → OneIn (cell_of type v)
+  pub cell_of_in : (type : CellType) (v : CValue) → ValueIn inside v → OneIn (cell_of type v)
   cell_of_in u8 (numeric n) h = tt
   cell_of_in u8 null_pointer h = tt
   cell_of_in u8 (address p) h = tt
@@ -141,10 +141,10 @@ module _ (inside : ℕ → Bool) where
   value_of_one type None h = tt
   value_of_one type (Some cell) h = value_of_in type cell h
 
-  pub as_type_in : (t : TypeTree) (v : Value) → ValueIn inside v → OptIn (as_type t v)
+  pub as_type_in : (t : TypeTree) (v : CValue) → ValueIn inside v → OptIn (as_type t v)
   as_type_in t v h = value_of_one (cell_type t) (cell_of (cell_type t) v) (cell_of_in (cell_type t) v h)
 
-  pub as_type_opt : (t : TypeTree) (v : Option Value) → OptIn v → OptIn (option_and_then (as_type t) v)
+  pub as_type_opt : (t : TypeTree) (v : Option CValue) → OptIn v → OptIn (option_and_then (as_type t) v)
   as_type_opt t None h = tt
   as_type_opt t (Some v) h = as_type_in t v h
 
@@ -165,7 +165,7 @@ module _ (inside : ℕ → Bool) where
   named_in frame None (Some k) h g = g
   named_in frame None None h g = tt
 
-  pub pointed_in : (v : Option Value) → OptIn v → PointerIn (pointed_place v)
+  pub pointed_in : (v : Option CValue) → OptIn v → PointerIn (pointed_place v)
   pointed_in None h = tt
   pointed_in (Some (numeric n)) h = tt
   pointed_in (Some (address p)) h = h
@@ -191,7 +191,7 @@ module _ (inside : ℕ → Bool) where
   offset_in None p z h = tt
   offset_in (Some it) p z h = indexed p _ h
 
-  element_in : (memory : Memory) (v i : Option Value) → OptIn v → PointerIn (element_place memory v i)
+  element_in : (memory : Memory) (v i : Option CValue) → OptIn v → PointerIn (element_place memory v i)
   element_in memory None i h = tt
   element_in memory (Some (numeric n)) i h = tt
   element_in memory (Some null_pointer) i h = tt
@@ -261,7 +261,7 @@ module _ (inside : ℕ → Bool) where
     truth_in None = tt
     truth_in (Some b) = tt
 
-    sum_in : (o : Bool) (a b : Value) → ValueIn inside a → OptIn (sum_value memory o a b)
+    sum_in : (o : Bool) (a b : CValue) → ValueIn inside a → OptIn (sum_value memory o a b)
     sum_in o (numeric a) (numeric b) h = number_in (operated Add a b)
     sum_in o (numeric a) (address q) h = tt
     sum_in o (numeric a) null_pointer h = tt
@@ -272,7 +272,7 @@ module _ (inside : ℕ → Bool) where
     sum_in o null_pointer (address q) h = tt
     sum_in o null_pointer null_pointer h = tt
 
-    other_in : (op : COp) (a b : Value) → OptIn (other_value op a b)
+    other_in : (op : COp) (a b : CValue) → OptIn (other_value op a b)
     other_in op (numeric a) (numeric b) = number_in (operated op a b)
     other_in op (numeric a) (address q) = number_in (compared_places op (numeric a) (address q))
     other_in op (numeric a) null_pointer = number_in (compared_places op (numeric a) null_pointer)
@@ -283,7 +283,7 @@ module _ (inside : ℕ → Bool) where
     other_in op null_pointer (address q) = number_in (compared_places op null_pointer (address q))
     other_in op null_pointer null_pointer = number_in (compared_places op null_pointer null_pointer)
 
-    combined_in : (c : Combination) (o : Bool) (op : COp) (a b : Option Value) → OptIn a → OptIn (combined_by c memory o op a b)
+    combined_in : (c : Combination) (o : Bool) (op : COp) (a b : Option CValue) → OptIn a → OptIn (combined_by c memory o op a b)
     combined_in conjunction o op None b h = tt
     combined_in conjunction o op (Some a) b h = truth_in (and_also (holds a) b)
     combined_in disjunction o op None b h = tt
@@ -295,21 +295,21 @@ module _ (inside : ℕ → Bool) where
     combined_in other o op (Some a) None h = tt
     combined_in other o op (Some a) (Some b) h = other_in op a b
 
-    from_left_in : (o : Bool) (op : COp) (first : Option Value) (others : List (Option Value)) → OptIn first → OptIn (from_left memory o op first others)
+    from_left_in : (o : Bool) (op : COp) (first : Option CValue) (others : List (Option CValue)) → OptIn first → OptIn (from_left memory o op first others)
     from_left_in o op first [] h = h
     from_left_in o op first (next ∷ others) h = from_left_in o op (combined memory o op first next) others (combined_in (combination_of op) o op first next h)
 
-  complement_in : (v : Option Value) → OptIn (option_and_then complement_of v)
+  complement_in : (v : Option CValue) → OptIn (option_and_then complement_of v)
   complement_in None = tt
   complement_in (Some (numeric n)) = tt
   complement_in (Some (address p)) = tt
   complement_in (Some null_pointer) = tt
 
-  negated_in : (f : Value → Number) (v : Option Value) → OptIn (option_map (λ x. numeric (f x)) v)
+  negated_in : (f : CValue → Number) (v : Option CValue) → OptIn (option_map (λ x. numeric (f x)) v)
   negated_in f None = tt
   negated_in f (Some v) = tt
 
-  as_expr_in : (t : ExprType) (v : Value) → ValueIn inside v → ValueIn inside (as_expr_type t v)
+  as_expr_in : (t : ExprType) (v : CValue) → ValueIn inside v → ValueIn inside (as_expr_type t v)
   as_expr_in (numbers c) (numeric n) h = tt
   as_expr_in (numbers c) (address p) h = h
   as_expr_in (numbers c) null_pointer h = tt
@@ -320,29 +320,29 @@ module _ (inside : ℕ → Bool) where
   as_expr_in zero_literal (address p) h = h
   as_expr_in zero_literal null_pointer h = tt
 
-  choice_in : (t : Option ExprType) (v : Option Value) → OptIn v → OptIn (choice_value t v)
+  choice_in : (t : Option ExprType) (v : Option CValue) → OptIn v → OptIn (choice_value t v)
   choice_in None v h = tt
   choice_in (Some t) None h = tt
   choice_in (Some t) (Some v) h = as_expr_in t v h
 
-  chosen_in : (b : Bool) (a c : Option Value) → OptIn a → OptIn c → OptIn (chosen b a c)
+  chosen_in : (b : Bool) (a c : Option CValue) → OptIn a → OptIn c → OptIn (chosen b a c)
   chosen_in true a c h k = h
   chosen_in false a c h k = k
 
-  tested_in : (t a c : Option Value) → OptIn a → OptIn c → OptIn (option_and_then (λ v. chosen (holds v) a c) t)
+  tested_in : (t a c : Option CValue) → OptIn a → OptIn c → OptIn (option_and_then (λ v. chosen (holds v) a c) t)
   tested_in None a c h k = tt
   tested_in (Some v) a c h k = chosen_in (holds v) a c h k
 
-  consed : (v : Value) (vs : Option (List Value)) → ValueIn inside v → ListIn vs → ListIn (option_map (λ others. v ∷ others) vs)
+  consed : (v : CValue) (vs : Option (List CValue)) → ValueIn inside v → ListIn vs → ListIn (option_map (λ others. v ∷ others) vs)
   consed v None h k = tt
   consed v (Some vs) h k = (h, k)
 
-  pub all_some_in : (vs : List (Option Value)) → OptsIn vs → ListIn (all_some vs)
+  pub all_some_in : (vs : List (Option CValue)) → OptsIn vs → ListIn (all_some vs)
   all_some_in [] h = tt
   all_some_in (None ∷ vs) h = tt
   all_some_in (Some v ∷ vs) h = consed v (all_some vs) h.0 (all_some_in vs h.1)
 
-  called_in : (f : List Value → Option Value) (vs : Option (List Value)) → ((given : List Value) → ValuesIn inside given → OptIn (f given)) → ListIn vs → OptIn (option_and_then f vs)
+  called_in : (f : List CValue → Option CValue) (vs : Option (List CValue)) → ((given : List CValue) → ValuesIn inside given → OptIn (f given)) → ListIn vs → OptIn (option_and_then f vs)
   called_in f None h k = tt
   called_in f (Some vs) h k = h vs k
 
@@ -351,7 +351,7 @@ module _ (inside : ℕ → Bool) where
     pub frame : inside s.frame ≡ true
     pub closed : IsClosed inside s.memory
     pub texts : (k : ℕ) → k < length s.scope.texts → inside k ≡ true
-    pub calls : (name : List ℕ) (given : List Value) → ValuesIn inside given → OptIn (s.called name given)
+    pub calls : (name : List ℕ) (given : List CValue) → ValuesIn inside given → OptIn (s.called name given)
 
   module _ (s : Surroundings) (around : Around s) where
     variable_in : (name : List ℕ) → PointerIn (variable_place s name)

@@ -2,7 +2,7 @@
 use Rattle.std.proofs.Common.{◌≡◌, ℕ, zero, suc, ◌+◌, ◌-◌, Bool, true, false, List, [], ◌∷◌, ◌++◌, map, Option, Some, None, refl, subst, ap, ◌∙◌, arith, length, take, drop, length-set}
 use Rattle.std.specs.Prelude.{if◌then◌else◌, ◌&&◌, ◌||◌, nat_eq, nat_lt, slice_get, slice_set, slice_range, option_and_then}
 use Rattle.std.proofs.lemmas.Bool.Decides.{nat_tests}
-use Rattle.c_meaning.specs.CValues.{Pointer, Value}
+use Rattle.c_meaning.specs.CValues.{Pointer, CValue}
 use Rattle.c_meaning.specs.CMemory.{CellType, u8, u16, u32, u64, flag, pointer, Cell, Field, cells, part, Object, Memory, cell_of, cells_at, cell_at, with_field, written, store, stored, whole_cells, copied, exists, moved, move_bytes, zero_cell, zero_field, parts_of, contains, zeroed_from, zeroed}
 use Rattle.c_meaning.specs.Reach.{CellIn, CellsIn, FieldIn, ObjectIn, FoundIn, IsClosed, ValueIn, Keeps}
 use Rattle.c_meaning.proofs.Stores.{equal_or_not, object_other, object_same, object_none}
@@ -60,11 +60,11 @@ module _ (inside : ℕ → Bool) where
     stored_one p None h k = tt
     stored_one p (Some c) h k = store_in p c h k
 
-    converted_in : (found : Option (CellType × Cell)) (v : Value) → ValueIn inside v → OneIn inside (option_and_then (λ it. cell_of it.0 v) found)
+    converted_in : (found : Option (CellType × Cell)) (v : CValue) → ValueIn inside v → OneIn inside (option_and_then (λ it. cell_of it.0 v) found)
     converted_in None v h = tt
     converted_in (Some it) v h = cell_of_in inside it.0 v h
 
-    pub stored_in : (p : Pointer) (v : Value) → inside p.object ≡ true → ValueIn inside v → LeftIn memory (stored memory p v)
+    pub stored_in : (p : Pointer) (v : CValue) → inside p.object ≡ true → ValueIn inside v → LeftIn memory (stored memory p v)
     stored_in p v h k = stored_one p _ h (converted_in (cell_at memory p) v k)
 
     -- memmove

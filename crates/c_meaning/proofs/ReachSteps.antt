@@ -8,7 +8,7 @@ use Rattle.turns.proofs.Unfolds.{unfolds}
 use Rattle.c_text.specs.declared.kinds.Linkage.{Linkage}
 use Rattle.c_text.specs.declared.kinds.Linkage.TheVariants.{External, Static, StaticInline}
 use Rattle.c_text.specs.CTree.{TypeTree, ExprTree, Code, finish, nested, empty, assign, call, jump, branch, repeat, select, leave, case_label, default_label, name_label, ParamTree, LocalTree}
-use Rattle.c_meaning.specs.CValues.{Pointer, same_pointer, Value, numeric, address, null_pointer, holds}
+use Rattle.c_meaning.specs.CValues.{Pointer, same_pointer, CValue, numeric, address, null_pointer, holds}
 use Rattle.c_meaning.specs.CMemory.{Cell, unset, Field, Object, Memory, cell_of, stored, zeroed}
 use Rattle.c_meaning.specs.CTypes.{Function, local_name, returned}
 use Rattle.c_meaning.specs.CExprs.{Surroundings, cell_type, value, place, pointed_place, arg_values, all_some}
@@ -26,10 +26,10 @@ module _ (inside : ℕ → Bool) where
   OutIn before Lost = Unit {0}
 
   pub record MeaningIn (meaning : Meaning) : Type 0 where
-    pub by : (n : ℕ) (given : List Value) (memory : Memory) → IsReady inside memory → ValuesIn inside given → OutIn memory (meaning n given memory)
+    pub by : (n : ℕ) (given : List CValue) (memory : Memory) → IsReady inside memory → ValuesIn inside given → OutIn memory (meaning n given memory)
 
   pub record ExprIn (meaning : ExprMeaning) : Type 0 where
-    pub by : (memory : Memory) (given : List Value) → IsReady inside memory → ValuesIn inside given → OptIn inside (meaning memory given)
+    pub by : (memory : Memory) (given : List CValue) → IsReady inside memory → ValuesIn inside given → OptIn inside (meaning memory given)
 
   abbrev NextIn : Memory → Next State Returned → Type 0
   NextIn before (Go s) = Keeps inside before s.memory
@@ -41,7 +41,7 @@ module _ (inside : ℕ → Bool) where
   record RunIn (r : Running) : Type 0 where
     frame : inside r.frame ≡ true
     texts : (k : ℕ) → k < length r.scope.texts → inside k ≡ true
-    expressions : (memory : Memory) → IsReady inside memory → (name : List ℕ) (given : List Value) → ValuesIn inside given → OptIn inside (r.in_expressions memory name given)
+    expressions : (memory : Memory) → IsReady inside memory → (name : List ℕ) (given : List CValue) → ValuesIn inside given → OptIn inside (r.in_expressions memory name given)
     callee : (name : List ℕ) → MeaningIn (r.callee name)
 
   ready_then : (a b : Memory) → IsReady inside a → Keeps inside a b → IsReady inside b
@@ -67,7 +67,7 @@ module _ (inside : ℕ → Bool) where
       if_in true met unmet h k = h
       if_in false met unmet h k = k
 
-      by_test_in : (o : Option Value) (met unmet : Next State Returned) → NextIn memory met → NextIn memory unmet → NextIn memory (by_test o met unmet)
+      by_test_in : (o : Option CValue) (met unmet : Next State Returned) → NextIn memory met → NextIn memory unmet → NextIn memory (by_test o met unmet)
       by_test_in None met unmet h k = tt
       by_test_in (Some v) met unmet h k = if_in (holds v) met unmet h k
 
@@ -87,13 +87,13 @@ module _ (inside : ℕ → Bool) where
       enters_in None rest k = same
       enters_in (Some p) rest k = same
 
-      switches_in : (o : Option Value) (body rest : Code) (k : Continuation) → NextIn memory (switches o body rest k memory)
+      switches_in : (o : Option CValue) (body rest : Code) (k : Continuation) → NextIn memory (switches o body rest k memory)
       switches_in None body rest k = tt
       switches_in (Some (numeric n)) body rest k = enters_in (first_of (find (by_case n) body (behind finish rest k)) (find by_default body (behind finish rest k))) rest k
       switches_in (Some (address p)) body rest k = tt
       switches_in (Some null_pointer) body rest k = tt
 
-      assigned_in : (p : Option Pointer) (v : Option Value) → PointerIn inside p → OptIn inside v → LeftIn inside memory (assigned memory p v)
+      assigned_in : (p : Option Pointer) (v : Option CValue) → PointerIn inside p → OptIn inside v → LeftIn inside memory (assigned memory p v)
       assigned_in None v h k = tt
       assigned_in (Some p) None h k = tt
       assigned_in (Some p) (Some v) h k = stored_in inside memory ready.closed p v h k
@@ -104,7 +104,7 @@ module _ (inside : ℕ → Bool) where
       moves_in (Some to) (Some from) None h k = tt
       moves_in (Some to) (Some from) (Some n) h k = move_in inside memory ready.closed to from n h k
 
-      move_given_in : (given : List (Option Value)) → OptsIn inside given → LeftIn inside memory (move_given memory given)
+      move_given_in : (given : List (Option CValue)) → OptsIn inside given → LeftIn inside memory (move_given memory given)
       move_given_in [] h = tt
       move_given_in (a ∷ []) h = tt
       move_given_in (a ∷ b ∷ []) h = tt
@@ -119,7 +119,7 @@ module _ (inside : ℕ → Bool) where
           by_index true = zeroed_in inside memory ready.closed p.object h
           by_index false = tt
 
-      set_given_in : (given : List (Option Value)) → OptsIn inside given → LeftIn inside memory (set_given memory given)
+      set_given_in : (given : List (Option CValue)) → OptsIn inside given → LeftIn inside memory (set_given memory given)
       set_given_in [] h = tt
       set_given_in (a ∷ others) h = zeroes_in (pointed_place a) (pointed_in inside a h.0)
 
@@ -136,11 +136,11 @@ module _ (inside : ℕ → Bool) where
       kept_in None done h k = h
       kept_in (Some target) done h k = left_then memory done.memory _ h (by_value done.value k)
         where
-          by_place : (v : Value) → ValueIn inside v → (p : Option Pointer) → PointerIn inside p → LeftIn inside done.memory (option_and_then (λ q. stored done.memory q v) p)
+          by_place : (v : CValue) → ValueIn inside v → (p : Option Pointer) → PointerIn inside p → LeftIn inside done.memory (option_and_then (λ q. stored done.memory q v) p)
           by_place v g None e = tt
           by_place v g (Some p) e = stored_in inside done.memory h.closed p v e g
 
-          by_value : (v : Option Value) → OptIn inside v → LeftIn inside done.memory (option_and_then (λ v. option_and_then (λ p. stored done.memory p v) (one_place (place (surroundings r memory) target) (place (surroundings r done.memory) target))) v)
+          by_value : (v : Option CValue) → OptIn inside v → LeftIn inside done.memory (option_and_then (λ v. option_and_then (λ p. stored done.memory p v) (one_place (place (surroundings r memory) target) (place (surroundings r done.memory) target))) v)
           by_value None g = tt
           by_value (Some v) g = by_place v g (one_place (place (surroundings r memory) target) (place (surroundings r done.memory) target))
               (one_place_in (place (surroundings r memory) target) (place (surroundings r done.memory) target) (place_in inside (surroundings r done.memory) (around done.memory (ready_then memory done.memory ready h)) target))
@@ -159,20 +159,20 @@ module _ (inside : ℕ → Bool) where
       holding_in More on h f = tt
       holding_in Lost on h f = tt
 
-      calls_in : (n : ℕ) (target : Option ExprTree) (meaning : Meaning) (given : Option (List Value)) (rest : Code) (k : Continuation) → MeaningIn meaning → ListIn inside given → NextIn memory (calls r n target meaning given rest k memory)
+      calls_in : (n : ℕ) (target : Option ExprTree) (meaning : Meaning) (given : Option (List CValue)) (rest : Code) (k : Continuation) → MeaningIn meaning → ListIn inside given → NextIn memory (calls r n target meaning given rest k memory)
       calls_in n target meaning None rest k h g = tt
       calls_in n target meaning (Some given) rest k h g = holding_in (meaning n given memory) _ (h.by n given memory ready g) (λ left done a b. goes_back_in n left rest k (kept r memory target done) (kept_in target done a b))
 
-      calls_function_in : (c : Callee) (n : ℕ) (target : Option ExprTree) (name : List ℕ) (given : List (Option Value)) (rest : Code) (k : Continuation) → OptsIn inside given → NextIn memory (calls_function c r n target name given rest k memory)
+      calls_function_in : (c : Callee) (n : ℕ) (target : Option ExprTree) (name : List ℕ) (given : List (Option CValue)) (rest : Code) (k : Continuation) → OptsIn inside given → NextIn memory (calls_function c r n target name given rest k memory)
       calls_function_in memory_move n target name given rest k h = goes_on_in rest k (move_given memory given) (move_given_in given h)
       calls_function_in memory_set n target name given rest k h = goes_on_in rest k (set_given memory given) (set_given_in given h)
       calls_function_in own n target name given rest k h = calls_in n target (r.callee name) (all_some given) rest k (rin.callee name) (all_some_in inside given h)
 
-      returns_in : (n : ℕ) (v : Option Value) → OptIn inside v → NextIn memory (returns n memory v)
+      returns_in : (n : ℕ) (v : Option CValue) → OptIn inside v → NextIn memory (returns n memory v)
       returns_in n None h = tt
       returns_in n (Some v) h = (same, h)
 
-      result_in : (t : Option TypeTree) (v : Option Value) → OptIn inside v → OptIn inside (result_value t v)
+      result_in : (t : Option TypeTree) (v : Option CValue) → OptIn inside v → OptIn inside (result_value t v)
       result_in None v h = tt
       result_in (Some t) v h = as_type_opt inside t v h
 
@@ -229,7 +229,7 @@ module _ (inside : ℕ → Bool) where
     initial_in memory ready field None = keeps_self inside memory ready.closed
     initial_in memory ready field (Some e) = by_value (value (surroundings r memory) e) (value_in inside (surroundings r memory) (around memory ready) e)
       where
-        by_value : (v : Option Value) → OptIn inside v → LeftIn inside memory (option_and_then (stored memory (record { object = r.frame; field = field; index = 0 })) v)
+        by_value : (v : Option CValue) → OptIn inside v → LeftIn inside memory (option_and_then (stored memory (record { object = r.frame; field = field; index = 0 })) v)
         by_value None h = tt
         by_value (Some v) h = stored_in inside memory ready.closed (record { object = r.frame; field = field; index = 0 }) v rin.frame h
 
@@ -255,7 +255,7 @@ module _ (inside : ℕ → Bool) where
   passed_cell p None (Some c) h k = tt
   passed_cell p (Some fields) (Some c) h k = ((h, tt), k)
 
-  passed_in : (ps : List ParamTree) (vs : List Value) → ValuesIn inside vs → ObjIn (passed ps vs)
+  passed_in : (ps : List ParamTree) (vs : List CValue) → ValuesIn inside vs → ObjIn (passed ps vs)
   passed_in [] [] h = tt
   passed_in [] (v ∷ vs) h = tt
   passed_in (p ∷ ps) [] h = tt
@@ -269,7 +269,7 @@ module _ (inside : ℕ → Bool) where
   append_object [] ys h k = k
   append_object (x ∷ xs) ys h k = (h.0, append_object xs ys h.1 k)
 
-  frame_in : (f : Function) (given : List Value) → ValuesIn inside given → ObjIn (frame_object f given)
+  frame_in : (f : Function) (given : List CValue) → ValuesIn inside given → ObjIn (frame_object f given)
   frame_in f given h = with_locals (passed f.params given) (passed_in f.params given h)
     where
       with_locals : (o : Option Object) → ObjIn o → ObjIn (option_map (λ fields. fields ++ map (λ l. field_with (local_name l) unset) f.locals) o)
@@ -330,7 +330,7 @@ module _ (inside : ℕ → Bool) where
   without_in memory object ready More h = tt
   without_in memory object ready Lost h = tt
 
-  started_in : (r : Running) → RunIn r → (f : Function) (given : List Value) (memory : Memory) → IsReady inside memory → ValuesIn inside given → (n : ℕ) → OutIn memory (started r f given memory n)
+  started_in : (r : Running) → RunIn r → (f : Function) (given : List CValue) (memory : Memory) → IsReady inside memory → ValuesIn inside given → (n : ℕ) → OutIn memory (started r f given memory n)
   started_in r rin f given memory ready h n = by_object (frame_object f given) (frame_in f given h)
     where
       by_object : (o : Option Object) → ObjIn o → OutIn memory (without_frame (length memory) (body_run r f n (option_and_then (λ fields. initialized r (length f.params) f.locals (memory ++ fields ∷ [])) o)))
@@ -346,7 +346,7 @@ module _ (inside : ℕ → Bool) where
   entered_in before StaticInline n go h = h n
 
   module _ (p : Program) (texts : (k : ℕ) → k < length p.texts → inside k ≡ true) where
-    result_of : (t : Option TypeTree) (v : Option Value) → OptIn inside v → OptIn inside (result_value t v)
+    result_of : (t : Option TypeTree) (v : Option CValue) → OptIn inside v → OptIn inside (result_value t v)
     result_of None v h = tt
     result_of (Some t) v h = as_type_opt inside t v h
 
@@ -386,7 +386,7 @@ module _ (inside : ℕ → Bool) where
     call_in [] name = record { by = λ n given memory ready k. tt }
     call_in (f ∷ fs) name = if_meaning (bytes_eq f.name name) _ _ (function_in f (expression_call p fs) (call_of p fs) (expressions_in fs) (call_in fs)) (call_in fs name)
 
-pub function_keeps : (inside : ℕ → Bool) (p : Program) (name : List ℕ) (n left : ℕ) (given : List Value) (memory : Memory) (done : Returned)
+pub function_keeps : (inside : ℕ → Bool) (p : Program) (name : List ℕ) (n left : ℕ) (given : List CValue) (memory : Memory) (done : Returned)
     → ((k : ℕ) → k < length p.texts → inside k ≡ true) → IsReady inside memory → ValuesIn inside given
     → host_call p name n given memory ≡ Got left done → Keeps inside memory done.memory
 function_keeps inside p name n left given memory done texts ready there e =

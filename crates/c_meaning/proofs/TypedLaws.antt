@@ -5,7 +5,7 @@ use Rattle.std.specs.List.{list_all}
 use Rattle.std.proofs.lemmas.Bool.{leb-true}
 use Rattle.wf_num.specs.CArithmetic.{modulo}
 use Rattle.c_text.specs.CTree.{ParamTree, LocalTree}
-use Rattle.c_meaning.specs.CValues.{Pointer, Value, numeric, address, null_pointer, whole, is_nonzero}
+use Rattle.c_meaning.specs.CValues.{Pointer, CValue, numeric, address, null_pointer, whole, is_nonzero}
 use Rattle.c_meaning.specs.CMemory.{CellType, u8, u16, u32, u64, flag, pointer, Cell, unset, Field, cells, part, Object, Memory, cell_of, field_at, cells_of, cells_at, object_at, with_field, written, stored, is_set, same_type, whole_cells, copied, exists, moved, move_bytes, zero_cell, zero_field, parts_of, contains, zeroed_from, zeroed}
 use Rattle.c_meaning.specs.CTypes.{Function, local_name}
 use Rattle.c_meaning.specs.CExprs.{cell_type}
@@ -28,7 +28,7 @@ flag_fits : (b : Bool) → (if b then 1 else 0) < 2
 flag_fits true = omega arith
 flag_fits false = omega arith
 
-cell_of_fits : (type : CellType) (v : Value) → OneFits type (cell_of type v)
+cell_of_fits : (type : CellType) (v : CValue) → OneFits type (cell_of type v)
 cell_of_fits u8 (numeric n) = left_over (whole n) (2 ^ 8) (omega arith)
 cell_of_fits u16 (numeric n) = left_over (whole n) (2 ^ 16) (omega arith)
 cell_of_fits u32 (numeric n) = left_over (whole n) (2 ^ 32) (omega arith)
@@ -143,7 +143,7 @@ if_typed false before now h = tt
 same_typed : (memory : Memory) → IsTyped memory → StaysTyped memory memory
 same_typed memory typed = record { typed = typed; shape = refl }
 
-stored_typed : (memory : Memory) → IsTyped memory → (p : Pointer) (v : Value) → LeftBy StaysTyped memory (stored memory p v)
+stored_typed : (memory : Memory) → IsTyped memory → (p : Pointer) (v : CValue) → LeftBy StaysTyped memory (stored memory p v)
 stored_typed memory typed p v = by_field (field_at memory p.object p.field) refl (field_at_fits memory p.object p.field typed)
   where
     by_value : (type : CellType) (them : List Cell) → field_at memory p.object p.field ≡ Some (cells type them) → CellsFit type them → (c : Option Cell) → OneFits type c → LeftBy StaysTyped memory (option_and_then (λ cell. written memory p cell (type, them)) c)
@@ -299,7 +299,7 @@ passed_cell p rest None h k = tt
 passed_cell p None (Some c) h k = tt
 passed_cell p (Some fields) (Some c) h k = ((h, tt), k)
 
-passed_fits : (ps : List ParamTree) (vs : List Value) → ObjFits (passed ps vs)
+passed_fits : (ps : List ParamTree) (vs : List CValue) → ObjFits (passed ps vs)
 passed_fits [] [] = tt
 passed_fits [] (v ∷ vs) = tt
 passed_fits (p ∷ ps) [] = tt
@@ -313,14 +313,14 @@ append_object_fits : (xs ys : Object) → ObjectFits xs → ObjectFits ys → Ob
 append_object_fits [] ys h k = k
 append_object_fits (x ∷ xs) ys h k = (h.0, append_object_fits xs ys h.1 k)
 
-frame_fits : (f : Function) (given : List Value) → ObjFits (frame_object f given)
+frame_fits : (f : Function) (given : List CValue) → ObjFits (frame_object f given)
 frame_fits f given = with_locals (passed f.params given) (passed_fits f.params given)
   where
     with_locals : (o : Option Object) → ObjFits o → ObjFits (option_map (λ fields. fields ++ map (λ l. field_with (local_name l) unset) f.locals) o)
     with_locals None k = tt
     with_locals (Some fields) k = append_object_fits fields _ k (unset_fits f.locals)
 
-enters_typed : (memory : Memory) → IsTyped memory → (f : Function) (given : List Value) (object : Object) → frame_object f given ≡ Some object → IsTyped (memory ++ object ∷ [])
+enters_typed : (memory : Memory) → IsTyped memory → (f : Function) (given : List CValue) (object : Object) → frame_object f given ≡ Some object → IsTyped (memory ++ object ∷ [])
 enters_typed memory typed f given object e = append_typed memory object typed (subst ObjFits e (frame_fits f given))
 
 pub take_typed : (n : ℕ) (memory : Memory) → IsTyped memory → IsTyped (take n memory)
@@ -355,7 +355,7 @@ typed_kept = record {
 pub call_typed : (p : Program) (name : List ℕ) → MeaningBy IsTyped StaysTyped typed_kept (call_of p p.functions name)
 call_typed p name = call_by IsTyped StaysTyped typed_kept p p.functions name
 
-pub function_typed : (p : Program) (name : List ℕ) (n left : ℕ) (given : List Value) (memory : Memory) (done : Returned)
+pub function_typed : (p : Program) (name : List ℕ) (n left : ℕ) (given : List CValue) (memory : Memory) (done : Returned)
     → IsTyped memory → host_call p name n given memory ≡ Got left done → StaysTyped memory done.memory
 function_typed p name n left given memory done typed e =
     let F : Outcome Returned → Type 0 = OutBy StaysTyped memory in

@@ -6,11 +6,10 @@ use Rattle.std.proofs.lemmas.Bool.Decides.{nat_tests}
 use Rattle.turns.specs.Run.{Outcome, Got, More, Lost}
 use Rattle.wf_text.specs.HostActions.{HostArg, num, flag, io, bytes}
 use Rattle.wf_text.specs.Seen.{Answer}
-use Rattle.wf_text.specs.Surface.{PublicStruct, PublicMethod}
 use Rattle.wf_base.specs.BaseOps.{Buffer}
 use Rattle.wf_base.specs.HostRun.{Host, HostCall, Response, answers, needs_more, not_defined}
 use Rattle.wf_base.specs.LawfulActions.{consed, named_buffers, named_arrays, called_method}
-use Rattle.c_meaning.specs.CValues.{Value}
+use Rattle.c_meaning.specs.CValues.{CValue}
 use Rattle.c_meaning.specs.CMemory.{num as holds_num, Object, Memory}
 use Rattle.c_meaning.specs.CStep.{Returned}
 use Rattle.c_meaning.specs.CCall.{host_call}
@@ -135,7 +134,7 @@ call_leaves_host : (it : Loaded) (memory : Memory) (called : HostCall) (host : H
 call_leaves_host it memory called host n =
     let P : Memory × Host → Type 0 = λ after. HostKeeps called.args host after.1 in
     let Q : Returned → Type 0 = λ _. Unit {0} in
-    let R : Value → Type 0 = λ _. Unit {0} in
+    let R : CValue → Type 0 = λ _. Unit {0} in
     and_then_leaves P (struct_of it called.receiver) _ (λ s. and_then_leaves P (called_method it.surface it.receivers called) _ (λ method. map_leaves P R (slice_get it.pointers called.receiver) _ (any (slice_get it.pointers called.receiver))
     (λ receiver r. response_leaves P Q (call_ended it memory method called host (most_args it.surface.structs)) (host_call it.program (function_name it.surface s method.name) n (receiver ∷ all_values host (length memory) (length memory + most_args it.surface.structs) called.args) (call_memory host memory (most_args it.surface.structs) called.args)) (λ left done e. tt)
     (λ done q. answered_leaves P (answer_of it.program it.surface method.answers done.value) _ (host_left called.args host (take (length memory) done.memory) _ (args_keep done.memory called.args (length memory) (length memory + most_args it.surface.structs) host))))))
@@ -202,7 +201,7 @@ module _ (inside : ℕ → Bool) where
     call_ready most args = ready_appends memory _ ready (append_objects (io_objects host (length memory + most) args) _ (io_objects_in (length memory + most) args (omega arith))
         (append_objects (replicate (most - length args) no_buffer) _ (no_buffers_in (most - length args)) (byte_objects_in args)))
 
-    append_values : (xs ys : List Value) → ValuesIn inside xs → ValuesIn inside ys → ValuesIn inside (xs ++ ys)
+    append_values : (xs ys : List CValue) → ValuesIn inside xs → ValuesIn inside ys → ValuesIn inside (xs ++ ys)
     append_values [] ys h k = k
     append_values (x ∷ xs) ys h k = (h.0, append_values xs ys h.1 k)
 
@@ -240,7 +239,7 @@ module _ (inside : ℕ → Bool) where
     memory_left now None h = tt
     memory_left now (Some x) h = h
 
-    receiver_there : (v : Option Value) → OptionIn inside v → IfThere (λ (x : Value). ValueIn inside x) v
+    receiver_there : (v : Option CValue) → OptionIn inside v → IfThere (λ (x : CValue). ValueIn inside x) v
     receiver_there None h = tt
     receiver_there (Some v) h = h
 
@@ -250,7 +249,7 @@ module _ (inside : ℕ → Bool) where
         let P : Memory × Host → Type 0 = λ after. Keeps inside memory after.0 in
         let most : ℕ = most_args it.surface.structs in
         let Q : Returned → Type 0 = λ done. Keeps inside (call_memory host memory most called.args) done.memory in
-        let R : Value → Type 0 = λ v. ValueIn inside v in
+        let R : CValue → Type 0 = λ v. ValueIn inside v in
         and_then_leaves P (struct_of it called.receiver) _ (λ s. and_then_leaves P (called_method it.surface it.receivers called) _ (λ method. map_leaves P R (slice_get it.pointers called.receiver) _ (receiver_there (slice_get it.pointers called.receiver) there)
         (λ receiver r. response_leaves P Q (call_ended it memory method called host most) (host_call it.program (function_name it.surface s method.name) n (receiver ∷ all_values host (length memory) (length memory + most_args it.surface.structs) called.args) (call_memory host memory (most_args it.surface.structs) called.args))
         (out_keeps (call_memory host memory most called.args) (host_call it.program (function_name it.surface s method.name) n (receiver ∷ all_values host (length memory) (length memory + most_args it.surface.structs) called.args) (call_memory host memory (most_args it.surface.structs) called.args)) ((call_in inside it.program texts it.program.functions _).by n _ (call_memory host memory most called.args) (call_ready most called.args) (r, values_in (length memory) (length memory + most) called.args (omega arith) (omega arith))))
@@ -272,7 +271,7 @@ module _ (inside : ℕ → Bool) where
     init_leaves it k n texts there =
         let P : Memory → Type 0 = λ after. Keeps inside memory after in
         let Q : Returned → Type 0 = λ done. Keeps inside memory done.memory in
-        let R : Value → Type 0 = λ v. ValueIn inside v in
+        let R : CValue → Type 0 = λ v. ValueIn inside v in
         and_then_leaves P (struct_of it k) _ (λ s. map_leaves P R (slice_get it.pointers k) _ (receiver_there (slice_get it.pointers k) there)
         (λ receiver r. response_leaves P Q (init_ended it (length memory)) (host_call it.program (initialize_name it.surface s) n (receiver ∷ []) memory)
         (out_keeps memory (host_call it.program (initialize_name it.surface s) n (receiver ∷ []) memory) ((call_in inside it.program texts it.program.functions (initialize_name it.surface s)).by n (receiver ∷ []) memory ready (r, tt)))

@@ -6,7 +6,7 @@ use Rattle.std.proofs.lemmas.Bool.{ltb-true}
 use Rattle.turns.specs.Run.{Next, Go, Turn, Outcome, Got, More, Lost, onward, holding}
 use Rattle.turns.specs.Steps.{FallsTo, Falls}
 use Rattle.c_text.specs.CTree.{ExprTree, Code, finish, nested, empty, assign, call, jump, branch, repeat, select, leave, case_label, default_label, name_label}
-use Rattle.c_meaning.specs.CValues.{Value, numeric, address, null_pointer, holds}
+use Rattle.c_meaning.specs.CValues.{CValue, numeric, address, null_pointer, holds}
 use Rattle.c_meaning.specs.CMemory.{Memory}
 use Rattle.c_meaning.specs.CExprs.{value, place, all_some, arg_values}
 use Rattle.c_meaning.specs.CStep.{Continuation, stop, behind, again, Place, at, code_weight, continuation_weight, place_weight, Label, by_name, by_case, by_default, enters_switch, is_case, is_default, is_named, first_of, here, find, Returned, Meaning, Running, State, state, weight, surroundings, goes_on, by_test, takes_turn, tested_again, leaps, jumps, enters, switches, kept, goes_back, calls, Callee, memory_move, memory_set, own, callee_of, move_given, set_given, calls_function, returns, result_value, assigned, at_end, step_at, step}
@@ -65,7 +65,7 @@ module _ (n : ℕ) (s : State) where
   if_down true met unmet h k = h
   if_down false met unmet h k = k
 
-  by_test_down : (o : Option Value) (met unmet : Next State Returned) → Down met → Down unmet → Down (by_test o met unmet)
+  by_test_down : (o : Option CValue) (met unmet : Next State Returned) → Down met → Down unmet → Down (by_test o met unmet)
   by_test_down None met unmet h k = tt
   by_test_down (Some v) met unmet h k = if_down (holds v) met unmet h k
 
@@ -85,7 +85,7 @@ module _ (n : ℕ) (s : State) where
   enters_down m None rest k memory w h l = l
   enters_down m (Some p) rest k memory w h l = omega (arith, w, h)
 
-  switches_down : (o : Option Value) (body rest : Code) (k : Continuation) (memory : Memory) → code_weight body + code_weight rest + continuation_weight k + 1 < weight s → Down (switches o body rest k memory)
+  switches_down : (o : Option CValue) (body rest : Code) (k : Continuation) (memory : Memory) → code_weight body + code_weight rest + continuation_weight k + 1 < weight s → Down (switches o body rest k memory)
   switches_down None body rest k memory h = tt
   switches_down (Some (address p)) body rest k memory h = tt
   switches_down (Some null_pointer) body rest k memory h = tt
@@ -111,16 +111,16 @@ module _ (n : ℕ) (s : State) where
   holding_down More on h = tt
   holding_down Lost on h = tt
 
-  calls_down : (r : Running) (target : Option ExprTree) (meaning : Meaning) (given : Option (List Value)) (rest : Code) (k : Continuation) (memory : Memory) → code_weight rest + continuation_weight k < weight s → Down (calls r n target meaning given rest k memory)
+  calls_down : (r : Running) (target : Option ExprTree) (meaning : Meaning) (given : Option (List CValue)) (rest : Code) (k : Continuation) (memory : Memory) → code_weight rest + continuation_weight k < weight s → Down (calls r n target meaning given rest k memory)
   calls_down r target meaning None rest k memory h = tt
   calls_down r target meaning (Some given) rest k memory h = holding_down (meaning n given memory) _ (λ left done. goes_back_down left rest k (kept r memory target done) h)
 
-  calls_function_down : (c : Callee) (r : Running) (target : Option ExprTree) (name : List ℕ) (given : List (Option Value)) (rest : Code) (k : Continuation) (memory : Memory) → code_weight rest + continuation_weight k < weight s → Down (calls_function c r n target name given rest k memory)
+  calls_function_down : (c : Callee) (r : Running) (target : Option ExprTree) (name : List ℕ) (given : List (Option CValue)) (rest : Code) (k : Continuation) (memory : Memory) → code_weight rest + continuation_weight k < weight s → Down (calls_function c r n target name given rest k memory)
   calls_function_down memory_move r target name given rest k memory h = goes_on_down rest k (move_given memory given) h
   calls_function_down memory_set r target name given rest k memory h = goes_on_down rest k (set_given memory given) h
   calls_function_down own r target name given rest k memory h = calls_down r target (r.callee name) (all_some given) rest k memory h
 
-  returns_down : (memory : Memory) (o : Option Value) → Down (returns n memory o)
+  returns_down : (memory : Memory) (o : Option CValue) → Down (returns n memory o)
   returns_down memory None = tt
   returns_down memory (Some v) = omega arith
 
@@ -131,7 +131,7 @@ module _ (n : ℕ) (s : State) where
       by_truth m true = omega arith
       by_truth m false = omega arith
 
-      tested : (m : ℕ) (o : Option Value) → FallsTo {A = Returned} weight (suc m) (weight s) (by_test o (Turn m (state body (again test body k) memory)) (Turn m (state finish k memory)))
+      tested : (m : ℕ) (o : Option CValue) → FallsTo {A = Returned} weight (suc m) (weight s) (by_test o (Turn m (state body (again test body k) memory)) (Turn m (state finish k memory)))
       tested m None = tt
       tested m (Some v) = by_truth m (holds v)
 

@@ -6,9 +6,9 @@ use Rattle.turns.specs.Run.{Outcome, Got, More, Lost, run}
 use Rattle.c_text.specs.declared.kinds.Linkage.{Linkage}
 use Rattle.c_text.specs.declared.kinds.Linkage.TheVariants.{External, Static, StaticInline}
 use Rattle.c_text.specs.CTree.{ExprTree, ParamTree, LocalTree, ItemTree}
-use Rattle.c_meaning.specs.CValues.{Value}
+use Rattle.c_meaning.specs.CValues.{CValue}
 use Rattle.c_meaning.specs.CMemory.{Cell, unset, Field, cells, Object, Memory, cell_of, stored}
-use Rattle.c_meaning.specs.CTypes.{StructDecl, TextDecl, Function, Scope, structs_of, texts_of, functions_of, local_name, names_of, returned}
+use Rattle.c_meaning.specs.CTypes.{StructDecl, TextDecl, Function, CScope, structs_of, texts_of, functions_of, local_name, names_of, returned}
 use Rattle.c_meaning.specs.CExprs.{value, cell_type}
 use Rattle.c_meaning.specs.CStep.{Returned, Meaning, Running, state, stop, step, weight, surroundings, result_value}
 
@@ -23,7 +23,7 @@ abbrev pub program_of : List ItemTree → Program
 program_of items = record { structs = reverse (structs_of items); texts = texts_of items; functions = reverse (functions_of items) }
 
 -- The names that stand in a function (6.2.1).
-abbrev pub scope_in : Program → Function → Scope
+abbrev pub scope_in : Program → Function → CScope
 scope_in p f = record { structs = p.structs; texts = p.texts; functions = p.functions; names = names_of f }
 
 -- The fields of a call's object: the arguments, each converted to its parameter's type, and the locals, which are
@@ -32,21 +32,21 @@ abbrev pub field_with : ParamTree → Cell → Field
 field_with p cell = cells (cell_type p.kind) (cell ∷ [])
 
 -- The fields of the arguments (6.5.2.2p4, p7).
-abbrev pub passed : List ParamTree → List Value → Option (List Field)
+abbrev pub passed : List ParamTree → List CValue → Option (List Field)
 passed [] [] = Some []
 passed (p ∷ ps) (v ∷ vs) = option_and_then (λ cell. option_map (λ fields. field_with p cell ∷ fields) (passed ps vs)) (cell_of (cell_type p.kind) v)
 passed ps vs = None
 
 -- The object of a call (6.2.4p5, 6.9.1p9).
-abbrev pub frame_object : Function → List Value → Option Object
+abbrev pub frame_object : Function → List CValue → Option Object
 frame_object f given = option_map (λ fields. fields ++ map (λ l. field_with (local_name l) unset) f.locals) (passed f.params given)
 
 -- A function in an expression: the value of what it returns, where nothing but its parameters is there (6.5.2.2).
 abbrev pub ExprMeaning : Type 0
-ExprMeaning = Memory → List Value → Option Value
+ExprMeaning = Memory → List CValue → Option CValue
 
 -- The value of its `return` (6.8.6.4p3).
-abbrev pub returned_value : Program → Function → (List ℕ → ExprMeaning) → (frame : ℕ) → Memory → Option Value
+abbrev pub returned_value : Program → Function → (List ℕ → ExprMeaning) → (frame : ℕ) → Memory → Option CValue
 returned_value p f callee frame memory = result_value f.result_type (option_and_then (value (record { scope = scope_in p f; frame = frame; memory = memory; called = λ name. callee name memory })) (returned f.body))
 
 -- A function in an expression, for its arguments (6.5.2.2, 6.7.4).
@@ -91,7 +91,7 @@ abbrev pub running : Program → Function → (List ℕ → ExprMeaning) → (Li
 running p f in_expressions callee frame = record { scope = scope_in p f; frame = frame; body = f.body; result_type = f.result_type; in_expressions = λ memory name. in_expressions name memory; callee = callee }
 
 -- The run of a call (6.5.2.2p4, 6.9.1p11).
-abbrev pub started : Running → Function → List Value → Memory → ℕ → Outcome Returned
+abbrev pub started : Running → Function → List CValue → Memory → ℕ → Outcome Returned
 started r f given memory n = without_frame (length memory) (body_run r f n (option_and_then (λ fields. initialized r (length f.params) f.locals (memory ++ fields ∷ [])) (frame_object f given)))
 
 -- The meaning of a function (6.5.2.2).

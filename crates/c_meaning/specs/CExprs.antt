@@ -6,17 +6,17 @@ use Rattle.c_text.specs.declared.kinds.COp.TheVariants.{Add, Both, Either}
 use Rattle.c_text.specs.declared.kinds.CUint.TheVariants as width
 use Rattle.c_text.specs.declared.kinds.CUnary.TheVariants.{Not, Complement, Address}
 use Rattle.c_text.specs.CTree.{TypeTree, uint, size, boolean, uint_pointer, struct_pointer, text, ExprTree, number, variable, member, element, pointed, operation, unary, cast, choice, called, Operands, no_operand, operand, Args, no_arg, expr_arg, sizeof_arg}
-use Rattle.c_meaning.specs.CValues.{whole, Pointer, to_object, Value, numeric, address, null_pointer, literal_number, converted, truth, holds, operated, complemented, negated, compared_places}
+use Rattle.c_meaning.specs.CValues.{whole, Pointer, to_object, CValue, numeric, address, null_pointer, literal_number, converted, truth, holds, operated, complemented, negated, compared_places}
 use Rattle.c_meaning.specs.CMemory.{CellType, u8, u16, u32, u64, flag, pointer, Memory, cell_of, value_of, cell_at, part_at, loaded, offset, offset_object}
-use Rattle.c_meaning.specs.CTypes.{struct_named, Scope, object, ExprType, numbers, points_to, Held, one, fixed, many, inner, character, characters, type_of, held_of, variable_held, member_held, element_held, pointed_held, choice_type}
+use Rattle.c_meaning.specs.CTypes.{struct_named, CScope, object, ExprType, numbers, points_to, Held, one, fixed, many, inner, character, characters, type_of, held_of, variable_held, member_held, element_held, pointed_held, choice_type}
 
 -- What an expression's value depends on: the names of the function that is run, the object that holds its parameters and
 -- locals, one field each, memory, and the values of calls of the functions that an expression may call (6.2.1, 6.2.4).
 pub record Surroundings : Type 0 where
-  pub scope : Scope
+  pub scope : CScope
   pub frame : ℕ
   pub memory : Memory
-  pub called : List ℕ → List Value → Option Value
+  pub called : List ℕ → List CValue → Option CValue
 
 -- The cells of a type (6.2.5).
 abbrev pub cell_type : TypeTree → CellType
@@ -31,7 +31,7 @@ cell_type (struct_pointer name) = pointer
 cell_type text = pointer
 
 -- A value converted to a type, as if by assignment, and promoted again (6.5.4, 6.5.16.1p2).
-abbrev pub as_type : TypeTree → Value → Option Value
+abbrev pub as_type : TypeTree → CValue → Option CValue
 as_type t v = option_and_then (value_of (cell_type t)) (cell_of (cell_type t) v)
 
 -- The places of the forms of lvalues. A parameter or local is a field of the frame, a string the first byte of its
@@ -51,26 +51,26 @@ abbrev pub field_place : Option ℕ → Pointer → Option Pointer
 field_place field p = if nat_eq p.index 0 then option_map (λ k. record p { field = k }) field else None
 
 -- The number of a struct's field (6.5.2.3).
-abbrev pub field_number : Scope → List ℕ → Option ExprType → Option ℕ
+abbrev pub field_number : CScope → List ℕ → Option ExprType → Option ℕ
 field_number scope field (Some (points_to (object name))) = option_and_then (λ it. position (λ f. bytes_eq f.name field) it.fields) (struct_named scope.structs name)
 field_number scope field type = None
 
 -- What a pointer points to (6.5.3.2p4).
-abbrev pub pointed_place : Option Value → Option Pointer
+abbrev pub pointed_place : Option CValue → Option Pointer
 pointed_place (Some (address p)) = Some p
 pointed_place v = None
 
 -- The place of `p->field` (6.5.2.3p4).
-abbrev pub member_place : Scope → List ℕ → Option ExprType → Option Value → Option Pointer
+abbrev pub member_place : CScope → List ℕ → Option ExprType → Option CValue → Option Pointer
 member_place scope field type v = option_and_then (field_place (field_number scope field type)) (pointed_place v)
 
 -- The place of `p[i]` (6.5.2.1p2).
-abbrev pub element_place : Memory → Option Value → Option Value → Option Pointer
+abbrev pub element_place : Memory → Option CValue → Option CValue → Option Pointer
 element_place memory (Some (address p)) (Some (numeric n)) = offset memory p (whole n)
 element_place memory v index = None
 
 -- The value of an lvalue: that of its cell, or the pointer to the first element of an array (6.3.2.1p2, 6.3.2.1p3).
-abbrev pub held_value : Memory → Option Held → Option Pointer → Option Value
+abbrev pub held_value : Memory → Option Held → Option Pointer → Option CValue
 held_value memory (Some (one t)) (Some p) = loaded memory p
 held_value memory (Some (fixed t)) (Some p) = loaded memory p
 held_value memory (Some character) (Some p) = loaded memory p
@@ -79,23 +79,23 @@ held_value memory (Some characters) (Some p) = Some (address p)
 held_value memory held p = None
 
 -- `&` of an lvalue: its place, which has to be there, or the object inside (6.5.3.2p3).
-abbrev pub address_of : Memory → Option Held → Option Pointer → Option Value
+abbrev pub address_of : Memory → Option Held → Option Pointer → Option CValue
 address_of memory (Some (one t)) (Some p) = option_map (λ _. address p) (cell_at memory p)
 address_of memory (Some character) (Some p) = option_map (λ _. address p) (cell_at memory p)
 address_of memory (Some (inner name)) (Some p) = option_map (λ k. address (to_object k)) (part_at memory p.object p.field)
 address_of memory held p = None
 
 -- `&&` and `||` don't look at the second operand where the first one decides (6.5.13p4, 6.5.14p4).
-abbrev pub truth_value : Option Bool → Option Value
+abbrev pub truth_value : Option Bool → Option CValue
 truth_value b = option_map (λ t. numeric (truth t)) b
 
 -- `&&` (6.5.13).
-abbrev pub and_also : Bool → Option Value → Option Bool
+abbrev pub and_also : Bool → Option CValue → Option Bool
 and_also true second = option_map holds second
 and_also false second = Some false
 
 -- `||` (6.5.14).
-abbrev pub or_else : Bool → Option Value → Option Bool
+abbrev pub or_else : Bool → Option CValue → Option Bool
 or_else true second = Some true
 or_else false second = option_map holds second
 
@@ -106,13 +106,13 @@ moved_pointer memory false p z = offset memory p z
 
 -- `+` takes numbers, or a pointer and a number; every other operator that pointers may stand with compares
 -- them (6.5.6).
-abbrev pub sum_value : Memory → (whole_object : Bool) → Value → Value → Option Value
+abbrev pub sum_value : Memory → (whole_object : Bool) → CValue → CValue → Option CValue
 sum_value memory o (numeric a) (numeric b) = option_map numeric (operated Add a b)
 sum_value memory o (address p) (numeric b) = option_map address (moved_pointer memory o p (whole b))
 sum_value memory o a b = None
 
 -- Every operator but `+`, `&&` and `||` (6.5.5 to 6.5.12).
-abbrev pub other_value : COp → Value → Value → Option Value
+abbrev pub other_value : COp → CValue → CValue → Option CValue
 other_value op (numeric a) (numeric b) = option_map numeric (operated op a b)
 other_value op a b = option_map numeric (compared_places op a b)
 
@@ -131,7 +131,7 @@ combination_of Add = addition
 combination_of op = other
 
 -- What an operator gives, by its kind (6.5.5 to 6.5.14).
-abbrev pub combined_by : Combination → Memory → (whole_object : Bool) → COp → Option Value → Option Value → Option Value
+abbrev pub combined_by : Combination → Memory → (whole_object : Bool) → COp → Option CValue → Option CValue → Option CValue
 combined_by conjunction memory o op (Some a) second = truth_value (and_also (holds a) second)
 combined_by disjunction memory o op (Some a) second = truth_value (or_else (holds a) second)
 combined_by addition memory o op (Some a) (Some b) = sum_value memory o a b
@@ -139,11 +139,11 @@ combined_by other memory o op (Some a) (Some b) = other_value op a b
 combined_by by memory o op first second = None
 
 -- What an operator gives (6.5.5 to 6.5.14).
-abbrev pub combined : Memory → (whole_object : Bool) → COp → Option Value → Option Value → Option Value
+abbrev pub combined : Memory → (whole_object : Bool) → COp → Option CValue → Option CValue → Option CValue
 combined memory o op first second = combined_by (combination_of op) memory o op first second
 
 -- From the left: an operator that repeats takes what it gave for the operands before it (6.5p3).
-abbrev pub from_left : Memory → (whole_object : Bool) → COp → Option Value → List (Option Value) → Option Value
+abbrev pub from_left : Memory → (whole_object : Bool) → COp → Option CValue → List (Option CValue) → Option CValue
 from_left memory o op first [] = first
 from_left memory o op first (next ∷ others) = from_left memory o op (combined memory o op first next) others
 
@@ -153,34 +153,34 @@ is_object_pointer (Some (points_to (object name))) = true
 is_object_pointer type = false
 
 -- `~` (6.5.3.3p4).
-abbrev pub complement_of : Value → Option Value
+abbrev pub complement_of : CValue → Option CValue
 complement_of (numeric n) = Some (numeric (complemented n))
 complement_of v = None
 
 -- `c ? a : b` looks at one arm, and has the type of both (6.5.15).
-abbrev pub chosen : Bool → Option Value → Option Value → Option Value
+abbrev pub chosen : Bool → Option CValue → Option CValue → Option CValue
 chosen true met unmet = met
 chosen false met unmet = unmet
 
 -- A value as one of the type of both arms (6.5.15p5, 6.5.15p6).
-abbrev pub as_expr_type : ExprType → Value → Value
+abbrev pub as_expr_type : ExprType → CValue → CValue
 as_expr_type (numbers c) (numeric n) = numeric (converted c n)
 as_expr_type (points_to t) (numeric n) = null_pointer
 as_expr_type type v = v
 
 -- The value of the arm that was chosen (6.5.15).
-abbrev pub choice_value : Option ExprType → Option Value → Option Value
+abbrev pub choice_value : Option ExprType → Option CValue → Option CValue
 choice_value type v = option_and_then (λ t. option_map (as_expr_type t) v) type
 
 -- All values, where each is defined (6.5.2.2p4).
-abbrev pub all_some : List (Option Value) → Option (List Value)
+abbrev pub all_some : List (Option CValue) → Option (List CValue)
 all_some [] = Some []
 all_some (None ∷ others) = None
 all_some (Some v ∷ others) = option_map (λ vs. v ∷ vs) (all_some others)
 
 abbrev mutual
   -- The value of an expression (6.5).
-  pub value : Surroundings → ExprTree → Option Value
+  pub value : Surroundings → ExprTree → Option CValue
   value s (number n) = Some (numeric (literal_number n))
   value s (variable name) = held_value s.memory (variable_held s.scope name) (variable_place s name)
   value s (member of field) = held_value s.memory (member_held s.scope field (type_of s.scope of)) (member_place s.scope field (type_of s.scope of) (value s of))
@@ -208,12 +208,12 @@ abbrev mutual
   place s (called function given) = None
 
   -- The values of further operands (6.5).
-  pub operand_values : Surroundings → Operands → List (Option Value)
+  pub operand_values : Surroundings → Operands → List (Option CValue)
   operand_values s no_operand = []
   operand_values s (operand e others) = value s e ∷ operand_values s others
 
   -- The values of arguments (6.5.2.2p4).
-  pub arg_values : Surroundings → Args → List (Option Value)
+  pub arg_values : Surroundings → Args → List (Option CValue)
   arg_values s no_arg = []
   arg_values s (expr_arg e others) = value s e ∷ arg_values s others
   arg_values s (sizeof_arg name others) = None ∷ arg_values s others

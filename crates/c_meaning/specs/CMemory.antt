@@ -4,7 +4,7 @@ use Rattle.std.specs.Prelude.{ℕ, ◌+◌, ◌/◌, ◌%◌, ◌^◌, Bool, tru
 use Rattle.std.specs.List.{list_any, list_all}
 use Rattle.wf_num.specs.declared.c_arithmetic.CTy.TheVariants.{Int, U32, U64}
 use Rattle.wf_num.specs.CArithmetic.{modulo}
-use Rattle.c_meaning.specs.CValues.{number, whole, is_nonzero, Pointer, Value, numeric, address, null_pointer}
+use Rattle.c_meaning.specs.CValues.{number, whole, is_nonzero, Pointer, CValue, numeric, address, null_pointer}
 pub use Rattle.c_meaning.specs.declared.cells.CellType.{CellType}
 pub use Rattle.c_meaning.specs.declared.cells.CellType.TheVariants.{U8 as u8, U16 as u16, U32 as u32, U64 as u64, Flag as flag, Pointer as pointer}
 pub use Rattle.c_meaning.specs.declared.cells.Cell.{Cell}
@@ -40,7 +40,7 @@ bytes_of type = option_map (λ bits. bits / 8) (bits_of type)
 
 -- What a cell of a type holds once a value is assigned to it, with the conversion that this makes (6.3.1.2, 6.3.1.3,
 -- 6.3.2.3p3, 6.5.16.1p2). A number assigned to a pointer is the literal 0.
-abbrev pub cell_of : CellType → Value → Option Cell
+abbrev pub cell_of : CellType → CValue → Option Cell
 cell_of u8 (numeric n) = Some (num (modulo (whole n) (2 ^ 8)))
 cell_of u16 (numeric n) = Some (num (modulo (whole n) (2 ^ 16)))
 cell_of u32 (numeric n) = Some (num (modulo (whole n) (2 ^ 32)))
@@ -52,7 +52,7 @@ cell_of pointer (address p) = Some (at p)
 cell_of type v = None
 
 -- The value of a cell, promoted (6.3.1.1p2). An unset one has none (6.3.2.1p2, 6.7.8p10).
-abbrev pub value_of : CellType → Cell → Option Value
+abbrev pub value_of : CellType → Cell → Option CValue
 value_of type unset = None
 value_of u32 (num n) = Some (numeric (number U32 n))
 value_of u64 (num n) = Some (numeric (number U64 n))
@@ -98,7 +98,7 @@ abbrev pub load : Memory → Pointer → Option Cell
 load memory p = option_and_then (λ found. set_cell found.1) (cell_at memory p)
 
 -- The value of that cell (6.3.2.1p2, 6.5.3.2p4).
-abbrev pub loaded : Memory → Pointer → Option Value
+abbrev pub loaded : Memory → Pointer → Option CValue
 loaded memory p = option_and_then (λ found. value_of found.0 found.1) (cell_at memory p)
 
 -- Memory with another field in place of one (6.2.4).
@@ -118,7 +118,7 @@ abbrev pub store : Memory → Pointer → Cell → Option Memory
 store memory p cell = option_and_then (written memory p cell) (cells_at memory p.object p.field)
 
 -- Assignment of a value to the cell that a pointer names (6.5.16.1p2).
-abbrev pub stored : Memory → Pointer → Value → Option Memory
+abbrev pub stored : Memory → Pointer → CValue → Option Memory
 stored memory p v = option_and_then (λ cell. store memory p cell) (option_and_then (λ found. cell_of found.0 v) (cell_at memory p))
 
 -- A pointer moved by so many cells; undefined outside the field and one past it (6.5.6p8).
@@ -180,8 +180,8 @@ moved memory to from bytes target source =
 abbrev pub move_bytes : Memory → (to from : Pointer) → (bytes : ℕ) → Option Memory
 move_bytes memory to from bytes = option_and_then (λ target. option_and_then (λ source. moved memory to from bytes target source) (cells_at memory from.object from.field)) (cells_at memory to.object to.field)
 
--- `memset` of a whole object with 0 (7.21.6.1): numbers become zero, flags false and pointers null, in the object and in
--- every object inside it. The objects inside have greater numbers, so all are met in one pass.
+-- `memset` of a whole object with 0 (7.21.6.1): numbers become zero, flags false and pointers null, and so it is
+-- with every object inside. The objects inside have greater numbers, so all are met in one pass.
 abbrev pub zero_cell : CellType → Cell
 zero_cell pointer = null
 zero_cell type = num 0

@@ -17,7 +17,7 @@ use Rattle.wf_base.specs.HostRun.{Host, empty_host, HostCall, Response, answers,
 use Rattle.wf_base.specs.LawfulActions.{struct_numbered, called_method}
 use Rattle.c_text.specs.declared.kinds.CNumber.{CNumber}
 use Rattle.c_text.specs.CTree.{TypeTree, FieldKind, plain, inside, FieldTree, ItemTree}
-use Rattle.c_meaning.specs.CValues.{number, truth, is_nonzero, literal_number, Pointer, to_object, same_pointer, Value, numeric, address, null_pointer}
+use Rattle.c_meaning.specs.CValues.{number, truth, is_nonzero, literal_number, Pointer, to_object, same_pointer, CValue, numeric, address, null_pointer}
 use Rattle.c_meaning.specs.CMemory.{CellType, u8, u64, pointer as a_pointer, flag as a_flag, Cell, num as holds_num, null, at, unset, Field, cells, part, Object, Memory, zero_cell, cell_at, cells_at}
 use Rattle.c_meaning.specs.CTypes.{StructDecl, TextDecl}
 use Rattle.c_meaning.specs.CExprs.{cell_type}
@@ -81,19 +81,19 @@ pub record Loaded : Type 0 where
   pub program : Program
   pub surface : Surface
   pub receivers : List Receiver
-  pub pointers : List Value
+  pub pointers : List CValue
 
 pub record Made : Type 0 where
-  pub pointers : List Value
+  pub pointers : List CValue
   pub memory : Memory
 
 abbrev pub receiver_objects : Program → Surface → Receiver → ℕ → List Object
 receiver_objects p surface receiver from = if receiver.null then [] else option_map_or (λ it. struct_objects p.structs (struct_name surface it) from) (struct_numbered surface receiver.struct_number) no_fields
 
-abbrev pub receiver_pointer : Receiver → ℕ → Value
+abbrev pub receiver_pointer : Receiver → ℕ → CValue
 receiver_pointer receiver from = if receiver.null then null_pointer else address (to_object from)
 
-abbrev pub with_pointer : Value → Made → Made
+abbrev pub with_pointer : CValue → Made → Made
 with_pointer v made = record made { pointers = v ∷ made.pointers }
 
 abbrev pub make_receivers : Program → Surface → List Receiver → Memory → Made
@@ -151,18 +151,18 @@ abbrev pub byte_objects : Host → List HostArg → List Object
 byte_objects host args = map (λ arg. bytes_object (arg_bytes host arg)) args
 
 -- The values that are passed for an argument; an empty slice is null and 0.
-abbrev pub slice_values : List ℕ → (object : ℕ) → List Value
+abbrev pub slice_values : List ℕ → (object : ℕ) → List CValue
 slice_values [] object = null_pointer ∷ numeric (number U64 0) ∷ []
 slice_values (byte ∷ others) object = address (to_object object) ∷ numeric (number U64 (suc (length others))) ∷ []
 
-abbrev pub arg_values : Host → (buffer bytes_object : ℕ) → HostArg → List Value
+abbrev pub arg_values : Host → (buffer bytes_object : ℕ) → HostArg → List CValue
 arg_values host buffer object (num n) = numeric (number U64 n) ∷ []
 arg_values host buffer object (flag b) = numeric (truth b) ∷ []
 arg_values host buffer object (io None) = null_pointer ∷ []
 arg_values host buffer object (io (Some k)) = address (to_object buffer) ∷ []
 arg_values host buffer object (bytes name) = slice_values (arg_bytes host (bytes name)) object
 
-abbrev pub all_values : Host → (buffer bytes_object : ℕ) → List HostArg → List Value
+abbrev pub all_values : Host → (buffer bytes_object : ℕ) → List HostArg → List CValue
 all_values host buffer object [] = []
 all_values host buffer object (arg ∷ args) = arg_values host buffer object arg ++ all_values host (buffer + 1) (object + 1) args
 
@@ -226,15 +226,15 @@ abbrev pub args_left : Memory → (buffer object : ℕ) → List HostArg → Hos
 args_left memory buffer object [] host = Some host
 args_left memory buffer object (arg ∷ args) host = option_and_then (args_left memory (buffer + 1) (object + 1) args) (arg_left memory buffer object arg host)
 
--- What an action answers. A status is null for ok, or else the start of a string of the text with the text of a base
--- status or of a status of the package; every other pointer is undefined, and so is a value that wasn't returned.
+-- What an action answers. A status is null for ok, or else a pointer to the first byte of a string that says what one of
+-- the base statuses or the package's own says; every other pointer is undefined, and so is a value that wasn't returned.
 abbrev pub status_text : Program → Surface → Pointer → Option (List ℕ)
 status_text p surface q = if nat_eq q.field 0 && nat_eq q.index 0 then option_and_then (λ it. known it.bytes) (slice_get p.texts q.object) else None
   where
     known : List ℕ → Option (List ℕ)
     known them = if list_any (bytes_eq them) (drop 1 surface.statuses) then Some them else None
 
-abbrev pub answer_of : Program → Surface → AnswerKind → Option Value → Option Answer
+abbrev pub answer_of : Program → Surface → AnswerKind → Option CValue → Option Answer
 answer_of p surface kind.status (Some null_pointer) = Some (answer.status [])
 answer_of p surface kind.status (Some (address q)) = option_map answer.status (status_text p surface q)
 answer_of p surface (kind.numeric bits) (Some (numeric n)) = Some (answer.num n.bits)
@@ -255,7 +255,7 @@ response ended Lost = not_defined
 abbrev pub init_ended : Loaded → (objects : ℕ) → Returned → Response Memory
 init_ended it objects done = answered_with (answer_of it.program it.surface kind.status done.value) (Some (take objects done.memory))
 
-abbrev pub init_of : Loaded → Memory → PublicStruct → Value → ℕ → Response Memory
+abbrev pub init_of : Loaded → Memory → PublicStruct → CValue → ℕ → Response Memory
 init_of it memory s receiver n = response (init_ended it (length memory)) (host_call it.program (initialize_name it.surface s) n (receiver ∷ []) memory)
 
 abbrev pub defined : {A : Type 0} → Option (Response A) → Response A
@@ -274,7 +274,7 @@ call_ended it memory method called host most done =
     answered_with (answer_of it.program it.surface method.answers done.value)
     (option_map (λ left. (take (length memory) done.memory, left)) (args_left done.memory (length memory) (length memory + most) called.args host))
 
-abbrev pub call_of : Loaded → Memory → PublicStruct → PublicMethod → HostCall → Host → ℕ → Value → Response (Memory × Host)
+abbrev pub call_of : Loaded → Memory → PublicStruct → PublicMethod → HostCall → Host → ℕ → CValue → Response (Memory × Host)
 call_of it memory s method called host n receiver =
     response (call_ended it memory method called host (most_args it.surface.structs))
     (host_call it.program (function_name it.surface s method.name) n (receiver ∷ all_values host (length memory) (length memory + most_args it.surface.structs) called.args) (call_memory host memory (most_args it.surface.structs) called.args))

@@ -5,9 +5,9 @@ use Rattle.wf_num.specs.CArithmetic.{modulo}
 use Rattle.turns.specs.Run.{Next, Go, Turn, End, Out, Fail, Outcome, onward, holding}
 use Rattle.c_text.specs.declared.kinds.CNumber.{CNumber}
 use Rattle.c_text.specs.CTree.{TypeTree, ExprTree, Code, finish, nested, empty, assign, call, jump, branch, repeat, select, leave, case_label, default_label, name_label}
-use Rattle.c_meaning.specs.CValues.{Number, whole, literal_number, converted, Pointer, same_pointer, Value, numeric, holds}
+use Rattle.c_meaning.specs.CValues.{Number, whole, literal_number, converted, Pointer, same_pointer, CValue, numeric, holds}
 use Rattle.c_meaning.specs.CMemory.{Memory, stored, move_bytes, zeroed}
-use Rattle.c_meaning.specs.CTypes.{Scope}
+use Rattle.c_meaning.specs.CTypes.{CScope}
 use Rattle.c_meaning.specs.CExprs.{Surroundings, value, place, pointed_place, as_type, arg_values, all_some}
 
 -- What follows a block. `passed` is the text between the block's end and `rest` that is passed over: the `else` side,
@@ -110,21 +110,21 @@ find label (name_label name rest) k = here (is_named label name) (at (name_label
 -- A function that has returned: the memory that it leaves, and its value where it returned one (6.8.6.4).
 pub record Returned : Type 0 where
   pub memory : Memory
-  pub value : Option Value
+  pub value : Option CValue
 
 -- A function as its callers see it: what it gives within so many turns, for its arguments and the memory that it
 -- finds (6.5.2.2).
 abbrev pub Meaning : Type 0
-Meaning = ℕ → List Value → Memory → Outcome Returned
+Meaning = ℕ → List CValue → Memory → Outcome Returned
 
 -- What a step of a function's body depends on beside the place and memory: its names, the object of its parameters and
 -- locals, its whole body, the type of its result, and the functions that it can call (6.5.2.2, 6.9.1).
 pub record Running : Type 0 where
-  pub scope : Scope
+  pub scope : CScope
   pub frame : ℕ
   pub body : Code
   pub result_type : Option TypeTree
-  pub in_expressions : Memory → List ℕ → List Value → Option Value
+  pub in_expressions : Memory → List ℕ → List CValue → Option CValue
   pub callee : List ℕ → Meaning
 
 -- Where a function is, and memory (5.1.2.3).
@@ -150,7 +150,7 @@ goes_on rest k None = Fail
 goes_on rest k (Some memory) = Go (state rest k memory)
 
 -- By a condition, where it has a value (6.8.4.1p2, 6.8.5p4).
-abbrev pub by_test : Option Value → (met unmet : Next State Returned) → Next State Returned
+abbrev pub by_test : Option CValue → (met unmet : Next State Returned) → Next State Returned
 by_test None met unmet = Fail
 by_test (Some v) met unmet = if holds v then met else unmet
 
@@ -179,7 +179,7 @@ enters None rest k memory = Go (state rest k memory)
 enters (Some p) rest k memory = Go (record { place = p; memory = memory })
 
 -- By the number that is switched on (6.8.4.2p4, p5).
-abbrev pub switches : Option Value → Code → Code → Continuation → Memory → Next State Returned
+abbrev pub switches : Option CValue → Code → Code → Continuation → Memory → Next State Returned
 switches (Some (numeric n)) body rest k memory =
     enters (first_of (find (by_case n) body (behind finish rest k)) (find by_default body (behind finish rest k))) rest k memory
 switches v body rest k memory = Fail
@@ -201,7 +201,7 @@ goes_back n left rest k None = Fail
 goes_back n left rest k (Some memory) = onward n left (state rest k memory)
 
 -- A call of a function, where its arguments have values (6.5.2.2p4).
-abbrev pub calls : Running → ℕ → Option ExprTree → Meaning → Option (List Value) → Code → Continuation → Memory → Next State Returned
+abbrev pub calls : Running → ℕ → Option ExprTree → Meaning → Option (List CValue) → Code → Continuation → Memory → Next State Returned
 calls r n target meaning None rest k memory = Fail
 calls r n target meaning (Some given) rest k memory = holding (meaning n given memory) (λ left done. goes_back n left rest k (kept r memory target done))
 
@@ -216,7 +216,7 @@ abbrev pub callee_of : List ℕ → Callee
 callee_of name = if bytes_eq name (codes "memmove") then memory_move else if bytes_eq name (codes "memset") then memory_set else own
 
 -- A number of bytes (6.3.1.3, 7.17).
-abbrev pub as_size : Option Value → Option ℕ
+abbrev pub as_size : Option CValue → Option ℕ
 as_size (Some (numeric n)) = Some (modulo (whole n) (2 ^ 64))
 as_size v = None
 
@@ -231,32 +231,32 @@ zeroes memory (Some p) = if nat_eq p.index 0 then zeroed memory p.object else No
 zeroes memory None = None
 
 -- `memmove` of its arguments (7.21.2.2).
-abbrev pub move_given : Memory → List (Option Value) → Option Memory
+abbrev pub move_given : Memory → List (Option CValue) → Option Memory
 move_given memory (to ∷ from ∷ n ∷ []) = moves memory (pointed_place to) (pointed_place from) (as_size n)
 move_given memory given = None
 
 -- `memset` of its arguments (7.21.6.1).
-abbrev pub set_given : Memory → List (Option Value) → Option Memory
+abbrev pub set_given : Memory → List (Option CValue) → Option Memory
 set_given memory (p ∷ others) = zeroes memory (pointed_place p)
 set_given memory [] = None
 
 -- A call as a statement (6.5.2.2, 6.8.3).
-abbrev pub calls_function : Callee → Running → ℕ → Option ExprTree → List ℕ → List (Option Value) → Code → Continuation → Memory → Next State Returned
+abbrev pub calls_function : Callee → Running → ℕ → Option ExprTree → List ℕ → List (Option CValue) → Code → Continuation → Memory → Next State Returned
 calls_function memory_move r n target name given rest k memory = goes_on rest k (move_given memory given)
 calls_function memory_set r n target name given rest k memory = goes_on rest k (set_given memory given)
 calls_function own r n target name given rest k memory = calls r n target (r.callee name) (all_some given) rest k memory
 
 -- `return`, with the conversion to the type of the function's result (6.8.6.4p3).
-abbrev pub returns : ℕ → Memory → Option Value → Next State Returned
+abbrev pub returns : ℕ → Memory → Option CValue → Next State Returned
 returns n memory None = Fail
 returns n memory (Some v) = End n (record { memory = memory; value = Some v })
 
 -- A value as the function's result (6.8.6.4p3).
-abbrev pub result_value : Option TypeTree → Option Value → Option Value
+abbrev pub result_value : Option TypeTree → Option CValue → Option CValue
 result_value type v = option_and_then (λ t. option_and_then (as_type t) v) type
 
 -- An assignment, where both sides are defined (6.5.16).
-abbrev pub assigned : Memory → Option Pointer → Option Value → Option Memory
+abbrev pub assigned : Memory → Option Pointer → Option CValue → Option Memory
 assigned memory (Some p) (Some v) = stored memory p v
 assigned memory p v = None
 

@@ -56,7 +56,7 @@ functions_of (function_item linkage result_type name params locals body ∷ item
 functions_of (item ∷ items) = functions_of items
 
 -- The names that an expression of a function may use: `names` are the function's parameters and locals (6.2.1).
-pub record Scope : Type 0 where
+pub record CScope : Type 0 where
   pub structs : List StructDecl
   pub texts : List TextDecl
   pub functions : List Function
@@ -71,7 +71,7 @@ abbrev pub names_of : Function → List ParamTree
 names_of f = f.params ++ map local_name f.locals
 
 -- The names that these items declare, with further ones (6.2.1).
-abbrev pub scope_of : List ItemTree → List ParamTree → Scope
+abbrev pub scope_of : List ItemTree → List ParamTree → CScope
 scope_of items names = record { structs = structs_of items; texts = texts_of items; functions = functions_of items; names = names }
 
 -- The struct of this name (6.2.3).
@@ -328,7 +328,7 @@ called_type None given = None
 called_type (Some f) given = if is_expression f && passable f.params given then result_of f else None
 
 -- What a name, a field, an element and what a pointer points to stand for (6.5.1p2).
-abbrev pub variable_held : Scope → List ℕ → Option Held
+abbrev pub variable_held : CScope → List ℕ → Option Held
 variable_held scope name = found (find (λ it. bytes_eq it.name name) scope.names) (find (λ it. bytes_eq it.name name) scope.texts)
   where
     found : Option ParamTree → Option TextDecl → Option Held
@@ -337,11 +337,11 @@ variable_held scope name = found (find (λ it. bytes_eq it.name name) scope.name
     found None None = None
 
 -- The field of a struct (6.5.2.3).
-abbrev pub field_of : Scope → (struct_name field : List ℕ) → Option FieldTree
+abbrev pub field_of : CScope → (struct_name field : List ℕ) → Option FieldTree
 field_of scope name field = option_and_then (λ it. field_named it.fields field) (struct_named scope.structs name)
 
 -- What `p->field` stands for (6.5.2.3p4).
-abbrev pub member_held : Scope → List ℕ → Option ExprType → Option Held
+abbrev pub member_held : CScope → List ℕ → Option ExprType → Option Held
 member_held scope field (Some (points_to (object name))) = option_map (field_held name) (field_of scope name field)
 member_held scope field type = None
 
@@ -362,7 +362,7 @@ literal_type (literal.Long n) = numbers U64
 
 abbrev mutual
   -- The type of an expression (6.5).
-  pub type_of : Scope → ExprTree → Option ExprType
+  pub type_of : CScope → ExprTree → Option ExprType
   type_of scope (number n) = Some (literal_type n)
   type_of scope (variable name) = option_and_then held_type (variable_held scope name)
   type_of scope (member pointer field) = option_and_then held_type (member_held scope field (type_of scope pointer))
@@ -375,7 +375,7 @@ abbrev mutual
   type_of scope (called function given) = called_type (function_named scope.functions function) (arg_types scope given)
 
   -- What an lvalue stands for (6.3.2.1p1).
-  pub held_of : Scope → ExprTree → Option Held
+  pub held_of : CScope → ExprTree → Option Held
   held_of scope (variable name) = variable_held scope name
   held_of scope (member pointer field) = member_held scope field (type_of scope pointer)
   held_of scope (element pointer index) = element_held (type_of scope pointer) (type_of scope index)
@@ -388,12 +388,12 @@ abbrev mutual
   held_of scope (called function given) = None
 
   -- The types of further operands (6.5).
-  pub operand_types : Scope → Operands → List (Option ExprType)
+  pub operand_types : CScope → Operands → List (Option ExprType)
   operand_types scope no_operand = []
   operand_types scope (operand e others) = type_of scope e ∷ operand_types scope others
 
   -- `sizeof` is no argument of a function of the text (6.5.2.2p2).
-  pub arg_types : Scope → Args → List (Option ExprType)
+  pub arg_types : CScope → Args → List (Option ExprType)
   arg_types scope no_arg = []
   arg_types scope (expr_arg e others) = type_of scope e ∷ arg_types scope others
   arg_types scope (sizeof_arg name others) = None ∷ arg_types scope others

@@ -10,8 +10,8 @@ use Rattle.c_text.specs.declared.kinds.COp.{COp}
 use Rattle.c_text.specs.declared.kinds.COp.TheVariants.{Add, Sub, Mul, Div, Rem, Shl, Shr, BitAnd, BitOr, BitXor, Lt, Le, Gt, Ge, Eq, Ne, Both, Either}
 pub use Rattle.c_meaning.specs.declared.values.Number.{Number}
 pub use Rattle.c_meaning.specs.declared.values.Pointer.{Pointer}
-pub use Rattle.c_meaning.specs.declared.values.Value.{Value}
-pub use Rattle.c_meaning.specs.declared.values.Value.TheVariants.{Numeric as numeric, Address as address, NullPointer as null_pointer}
+pub use Rattle.c_meaning.specs.declared.values.CValue.{CValue}
+pub use Rattle.c_meaning.specs.declared.values.CValue.TheVariants.{Numeric as numeric, Address as address, NullPointer as null_pointer}
 
 -- A number of a type, by its bits (6.2.6.2).
 abbrev pub number : CTy → ℕ → Number
@@ -51,7 +51,7 @@ abbrev pub is_nonzero : Number → Bool
 is_nonzero n = not (nat_eq n.bits 0)
 
 -- The same of any value; a null pointer doesn't hold (6.8.4.1p2).
-abbrev pub holds : Value → Bool
+abbrev pub holds : CValue → Bool
 holds (numeric n) = is_nonzero n
 holds (address p) = true
 holds null_pointer = false
@@ -126,7 +126,7 @@ abbrev pub complemented : Number → Number
 complemented a = number a.ty (2 ^ c_width a.ty - 1 - a.bits)
 
 -- `!a` (6.5.3.3p5).
-abbrev pub negated : Value → Number
+abbrev pub negated : CValue → Number
 negated v = truth (not (holds v))
 
 -- Two pointers are equal where they name one place, or both are null; the literal 0 beside a pointer is null (6.5.9p6).
@@ -134,14 +134,14 @@ abbrev pub same_pointer : Pointer → Pointer → Bool
 same_pointer p q = nat_eq p.object q.object && (nat_eq p.field q.field && nat_eq p.index q.index)
 
 -- The same of two pointers, of which either may be null (6.5.9p6).
-abbrev pub same_place : Value → Value → Bool
+abbrev pub same_place : CValue → CValue → Bool
 same_place (address p) (address q) = same_pointer p q
 same_place (address p) other = false
 same_place other (address q) = false
 same_place other another = true
 
 -- `p op q` where one of them is a pointer (6.5.8, 6.5.9): an order of pointers is undefined.
-abbrev pub compared_places : COp → Value → Value → Option Number
+abbrev pub compared_places : COp → CValue → CValue → Option Number
 compared_places Eq v w = Some (truth (same_place v w))
 compared_places Ne v w = Some (truth (not (same_place v w)))
 compared_places _ v w = None

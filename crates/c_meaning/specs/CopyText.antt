@@ -1,6 +1,6 @@
 -- A text that copies a slice to a writer, as many bytes as fit.
 use Rattle.std.specs.Prelude.{ℕ, false, List, [], ◌∷◌, length, Some, None, codes}
-use Rattle.wf_text.specs.Surface.{Surface, PublicStruct, PublicMethod, PublicArg}
+use Rattle.wf_text.specs.Surface.{Surface, PublicStruct}
 use Rattle.wf_text.specs.Surface as kind
 use Rattle.wf_text.specs.HostActions.{bytes, io, HostAction, init, call as calls, replace, Receiver}
 use Rattle.wf_text.specs.Seen.{Answer, status, num, nothing, Seen, SeenBuffer, answered}

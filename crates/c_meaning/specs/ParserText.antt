@@ -1,7 +1,7 @@
 -- A text in structured C for a package with a parser of decimal numbers, as a person would write it: the byte that the
 -- parser waits for is read after a `case` label that stands inside the `while`.
 use Rattle.std.specs.Prelude.{ℕ, true, false, List, [], ◌∷◌, ◌++◌, Some, None, codes}
-use Rattle.wf_text.specs.Surface.{Surface, PublicStruct, PublicMethod, PublicArg}
+use Rattle.wf_text.specs.Surface.{Surface, PublicStruct, PublicMethod}
 use Rattle.wf_text.specs.Surface as kind
 use Rattle.wf_text.specs.HostActions.{HostAction, init, call as calls, put, compact, replace, io, Receiver}
 use Rattle.wf_text.specs.Seen.{Answer, status, Seen, answered}

@@ -1,7 +1,7 @@
 -- A text with an object of a struct inside another one, an array field, an inline function in an expression, and a
 -- pointer to the object inside.
 use Rattle.std.specs.Prelude.{false, List, [], ◌∷◌, Some, None, codes}
-use Rattle.wf_text.specs.Surface.{Surface, PublicStruct, PublicMethod, PublicArg}
+use Rattle.wf_text.specs.Surface.{Surface, PublicStruct}
 use Rattle.wf_text.specs.Surface as kind
 use Rattle.wf_text.specs.HostActions.{num as a_number, HostAction, init, call as calls, Receiver}
 use Rattle.wf_base.specs.BaseOps.{Buffer}

@@ -1,7 +1,7 @@
 -- What can be reached. A set of objects, by number, is closed where the pointers in its objects, and the objects inside
 -- them, lead to its objects.
 use Rattle.std.specs.Prelude.{◌≡◌, ℕ, ◌≤◌, Bool, true, false, List, [], ◌∷◌, length, Option, Some, None, slice_get}
-use Rattle.c_meaning.specs.CValues.{Value, numeric, address, null_pointer}
+use Rattle.c_meaning.specs.CValues.{CValue, numeric, address, null_pointer}
 use Rattle.c_meaning.specs.CMemory.{Cell, num, null, at, unset, Field, cells, part, Object, Memory}
 
 abbrev pub CellIn : (ℕ → Bool) → Cell → Type 0
@@ -30,12 +30,12 @@ pub record IsClosed (inside : ℕ → Bool) (memory : Memory) : Type 0 where
   pub by : (k : ℕ) → inside k ≡ true → FoundIn inside (slice_get memory k)
 
 -- Values that lead to its objects.
-abbrev pub ValueIn : (ℕ → Bool) → Value → Type 0
+abbrev pub ValueIn : (ℕ → Bool) → CValue → Type 0
 ValueIn inside (numeric n) = Unit {0}
 ValueIn inside (address p) = inside p.object ≡ true
 ValueIn inside null_pointer = Unit {0}
 
-abbrev pub ValuesIn : (ℕ → Bool) → List Value → Type 0
+abbrev pub ValuesIn : (ℕ → Bool) → List CValue → Type 0
 ValuesIn inside [] = Unit {0}
 ValuesIn inside (v ∷ vs) = ValueIn inside v × ValuesIn inside vs
 
@@ -51,6 +51,6 @@ pub record Keeps (inside : ℕ → Bool) (before now : Memory) : Type 0 where
   pub closed : IsClosed inside now
 
 -- The pointer to a receiver leads to its objects, where there is one.
-abbrev pub OptionIn : (ℕ → Bool) → Option Value → Type 0
+abbrev pub OptionIn : (ℕ → Bool) → Option CValue → Type 0
 OptionIn inside None = Unit {0}
 OptionIn inside (Some v) = ValueIn inside v

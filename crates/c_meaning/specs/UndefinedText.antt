@@ -1,6 +1,6 @@
 -- A text with functions that are undefined, each by a rule of its own, and one that is not.
 use Rattle.std.specs.Prelude.{ℕ, false, List, [], ◌∷◌, Some, None, codes}
-use Rattle.wf_text.specs.Surface.{Surface, PublicStruct, PublicMethod, PublicArg}
+use Rattle.wf_text.specs.Surface.{Surface, PublicStruct}
 use Rattle.wf_text.specs.Surface as kind
 use Rattle.wf_text.specs.HostActions.{HostArg, HostAction, call as calls, replace, Receiver}
 use Rattle.wf_text.specs.Seen.{Answer, nothing, Seen, answered}

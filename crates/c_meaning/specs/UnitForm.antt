@@ -12,7 +12,7 @@ use Rattle.c_text.specs.declared.kinds.CUint.TheVariants as width
 use Rattle.c_text.specs.declared.kinds.Linkage.{Linkage}
 use Rattle.c_text.specs.declared.kinds.Linkage.TheVariants.{External, Static}
 use Rattle.c_text.specs.CTree.{TypeTree, uint, size, boolean, uint_pointer, struct_pointer, text, ExprTree, variable, number, Args, no_arg, expr_arg, sizeof_arg, Code, finish, nested, empty, assign, call, jump, branch, repeat, select, leave, case_label, default_label, name_label, FieldKind, plain, inside, FieldTree, ParamTree, LocalTree, ItemTree, struct_item, text_item, function_item}
-use Rattle.c_meaning.specs.CTypes.{StructDecl, Function, Scope, structs_of, scope_of, struct_named, function_named, local_name, cell, byte, ExprType, points_to, Held, one, value_type, same_type, is_numeric, is_known, as_number, assignable, passable, type_of, held_of, arg_types, io_buffer}
+use Rattle.c_meaning.specs.CTypes.{StructDecl, Function, CScope, structs_of, scope_of, struct_named, function_named, local_name, cell, byte, ExprType, points_to, Held, one, value_type, same_type, is_numeric, is_known, as_number, assignable, passable, type_of, held_of, arg_types, io_buffer}
 use Rattle.c_meaning.specs.CStep.{Continuation, stop, behind, again, Place, at, place_weight, by_name, find as find_label, Callee, memory_move, memory_set, own, callee_of}
 use Rattle.c_meaning.specs.CRun.{struct_name, function_name, initialize_name}
 
@@ -81,7 +81,7 @@ is_io_buffer item = false
 
 -- What the statements of a function are checked against (6.8, 6.9.1).
 pub record Checked : Type 0 where
-  pub scope : Scope
+  pub scope : CScope
   pub linkage : Linkage
   pub result_type : Option TypeTree
   pub body : Code
@@ -114,7 +114,7 @@ is_object_pointer (Some p) = by_type p.kind
     by_type (struct_pointer name) = true
     by_type t = false
 
-abbrev pub is_set : Scope → Args → Bool
+abbrev pub is_set : CScope → Args → Bool
 is_set scope (expr_arg (variable name) (expr_arg (number (literal.Int zero)) (sizeof_arg same no_arg))) =
     nat_eq zero 0 && (bytes_eq name same && is_object_pointer (find (λ it. bytes_eq it.name name) scope.names))
 is_set scope given = false
@@ -145,7 +145,7 @@ abbrev pub formed_jump : Checked → Place → Option Place → Bool
 formed_jump c from None = false
 formed_jump c from (Some target) = may_loop c.linkage || nat_lt (place_weight target) (place_weight from)
 
--- A `return` has an expression exactly where the function isn't `void` (6.8.6.4p1).
+-- After `return` stands an expression, but none in a `void` function (6.8.6.4p1).
 abbrev pub formed_return : Checked → Option ExprTree → Option TypeTree → Bool
 formed_return c None None = true
 formed_return c (Some e) (Some t) = may_assign (Some (one t)) (type_of c.scope e)
@@ -236,12 +236,12 @@ formed_code c s (default_label rest) k = s && formed_code c s rest k
 formed_code c s (name_label name rest) k = formed_code c s rest k
 
 -- The initial value of a local knows the parameters and the locals before it (6.7.8p11).
-abbrev pub formed_initial : Scope → TypeTree → Option ExprTree → Bool
+abbrev pub formed_initial : CScope → TypeTree → Option ExprTree → Bool
 formed_initial scope t None = true
 formed_initial scope t (Some e) = may_assign (Some (one t)) (type_of scope e)
 
 -- The locals in order (6.7, 6.7.8p11).
-abbrev pub formed_locals : Scope → List LocalTree → Bool
+abbrev pub formed_locals : CScope → List LocalTree → Bool
 formed_locals scope [] = true
 formed_locals scope (l ∷ ls) =
     is_known scope.structs l.kind && (formed_initial scope l.kind l.initial && formed_locals (record scope { names = scope.names ++ local_name l ∷ [] }) ls)

@@ -6,15 +6,15 @@ ghost use Rattle.wf_num.specs.declared.c_arithmetic.CTy.{CTy};
 ghost use Rattle.wf_num.specs.CArithmetic.{IsIn, Overflows};
 ghost use Rattle.c_text.specs.declared.kinds.COp.TheVariants.{Add, Sub, Mul, Div, Rem, Shl, Shr, Lt, Le};
 ghost use Rattle.c_meaning.specs.COperators.{Gives, both, left, right};
-ghost use Rattle.turns.specs.Run.{Next, Go, Turn, Fail, Outcome, Got, More, Lost, on_next, run};
+ghost use Rattle.turns.specs.Run.{Turn, Fail, Got, Lost, on_next, run};
 ghost use Rattle.c_text.specs.CTree.{ExprTree, Args, Code, call, jump};
 ghost use Rattle.wf_text.specs.Surface.{Surface};
 ghost use Rattle.wf_text.specs.HostActions.{Receiver};
 ghost use Rattle.wf_text.specs.Seen.{Answer};
 ghost use Rattle.wf_base.specs.BaseOps.{IsLawful};
 ghost use Rattle.wf_base.specs.LawfulActions.{IsByteArray};
-ghost use Rattle.wf_base.specs.HostRun.{Host, HostCall, Response, answers, needs_more, not_defined};
-ghost use Rattle.c_meaning.specs.CValues.{Number, whole, converted, truth, operated, Pointer, Value, same_pointer};
+ghost use Rattle.wf_base.specs.HostRun.{Host, HostCall, answers, not_defined};
+ghost use Rattle.c_meaning.specs.CValues.{Number, whole, converted, truth, operated, Pointer, CValue, same_pointer};
 ghost use Rattle.c_meaning.specs.CMemory.{CellType, Cell, Memory, cell_at, part_at, store};
 ghost use Rattle.c_meaning.specs.CStep.{Continuation, stop, Place, at, Label, by_name, find, Returned, Running, State, state, weight, surroundings, takes_turn, one_place, own, callee_of, step};
 ghost use Rattle.c_meaning.specs.CExprs.{place, arg_values, all_some};
@@ -56,9 +56,9 @@ pub fn a_body_runs_step_by_step()
 /// A function that returns within a number of turns returns the same within any greater number, and takes as many
 /// turns; one that is undefined within a number of turns is so within any greater number.
 pub fn more_turns_change_no_return()
-    ensures returned { (p : Program) (name : List ℕ) (n more left : ℕ) (given : List Value) (memory : Memory) (done : Returned)
+    ensures returned { (p : Program) (name : List ℕ) (n more left : ℕ) (given : List CValue) (memory : Memory) (done : Returned)
         → host_call p name n given memory ≡ Got left done → host_call p name (n + more) given memory ≡ Got (left + more) done }
-    ensures undefined { (p : Program) (name : List ℕ) (n more : ℕ) (given : List Value) (memory : Memory)
+    ensures undefined { (p : Program) (name : List ℕ) (n more : ℕ) (given : List CValue) (memory : Memory)
         → host_call p name n given memory ≡ Lost → host_call p name (n + more) given memory ≡ Lost }
 {}
 
@@ -90,7 +90,7 @@ pub fn a_goto_forward_takes_no_turn()
 /// A call's target is one place: where it is another one after the call than before it, or isn't defined then or there, the
 /// statement is undefined, whatever the call returned.
 pub fn a_target_is_one_place()
-    ensures moved { (r : Running) (n left : ℕ) (target : ExprTree) (function : List ℕ) (given : Args) (values : List Value) (rest : Code) (k : Continuation) (memory : Memory) (done : Returned)
+    ensures moved { (r : Running) (n left : ℕ) (target : ExprTree) (function : List ℕ) (given : Args) (values : List CValue) (rest : Code) (k : Continuation) (memory : Memory) (done : Returned)
         → callee_of function ≡ own → all_some (arg_values (surroundings r memory) given) ≡ Some values → r.callee function n values memory ≡ Got left done
         → one_place (place (surroundings r memory) target) (place (surroundings r done.memory) target) ≡ None
         → step r n (state (call (Some target) function given rest) k memory) ≡ Fail }
@@ -108,7 +108,7 @@ pub fn a_store_changes_the_one_cell()
 /// Where every cell holds a value of its field's type, or nothing, it does so after every call; and no object changes the
 /// types and numbers of its cells, or which objects are inside it.
 pub fn memory_keeps_types_and_shapes()
-    ensures { (p : Program) (name : List ℕ) (n left : ℕ) (given : List Value) (memory : Memory) (done : Returned)
+    ensures { (p : Program) (name : List ℕ) (n left : ℕ) (given : List CValue) (memory : Memory) (done : Returned)
         → IsTyped memory → host_call p name n given memory ≡ Got left done → StaysTyped memory done.memory }
 {}
 
@@ -116,7 +116,7 @@ pub fn memory_keeps_types_and_shapes()
 /// objects that a call makes, and that pointers and objects inside don't lead out of: where the arguments lead into it,
 /// every object outside it is as before, and the set is still closed.
 pub fn what_a_function_cannot_reach_stays()
-    ensures { (inside : ℕ → Bool) (p : Program) (name : List ℕ) (n left : ℕ) (given : List Value) (memory : Memory) (done : Returned)
+    ensures { (inside : ℕ → Bool) (p : Program) (name : List ℕ) (n left : ℕ) (given : List CValue) (memory : Memory) (done : Returned)
         → ((k : ℕ) → k < length p.texts → inside k ≡ true) → IsReady inside memory → ValuesIn inside given
         → host_call p name n given memory ≡ Got left done → Keeps inside memory done.memory }
 {}

@@ -26,7 +26,7 @@ pub struct Pointer {
 
 /// A value: a number, or a pointer, which may be null (6.2.5).
 #[derive(Clone, Copy)]
-pub enum Value {
+pub enum CValue {
     /// A number.
     Numeric(Number),
     /// A pointer to a cell.

@@ -6,15 +6,15 @@ use Rattle.c_meaning.specs.declared.cells.CellType.TheVariants.{U8 as u8, U16 as
 use Rattle.c_meaning.specs.declared.cells.Cell.{Cell}
 use Rattle.c_meaning.specs.declared.cells.Cell.TheVariants.{Num as num}
 use Rattle.c_meaning.specs.declared.values.Pointer.{Pointer}
-use Rattle.c_meaning.specs.declared.values.Value.{Value}
-use Rattle.c_meaning.specs.declared.values.Value.TheVariants.{Numeric as numeric, Address as address, NullPointer as null_pointer}
+use Rattle.c_meaning.specs.declared.values.CValue.{CValue}
+use Rattle.c_meaning.specs.declared.values.CValue.TheVariants.{Numeric as numeric, Address as address, NullPointer as null_pointer}
 use Rattle.wf_num.specs.CArithmetic.{modulo}
 use Rattle.c_meaning.specs.CValues.{whole}
 use Rattle.c_meaning.specs.CMemory.{Field, cells, part, Memory, cell_of, cell_at, field_at, cells_of}
 use Rattle.c_mem.specs.FieldParts.{Fits, FitsField, FitsPlace}
 
 -- A value that was converted to a type.
-pub converted_fits : (type : CellType) (v : Value) (cell : Cell) → cell_of type v ≡ Some cell → Fits type cell
+pub converted_fits : (type : CellType) (v : CValue) (cell : Cell) → cell_of type v ≡ Some cell → Fits type cell
 converted_fits u8 (numeric n) cell e =
     let s : num (modulo (whole n) 256) ≡ cell = cc (e) in
     subst (λ (c : Cell). Fits u8 c) s (below (whole n))

@@ -105,9 +105,6 @@ module _ (memory : Memory) (to from : Pointer) (bytes : ℕ) (it : Object) (ther
       → moved memory to from bytes (type, xs) (source_type, ys) ≡ option_map now_with (moved_field (cells type xs) to.index (cells source_type ys) from.index bytes)
   moved_cells type xs source_type ys e = by_zero (nat_eq bytes 0)
     where
-      copy_test : ℕ → Bool
-      copy_test count = same_type type source_type && (nat_le (from.index + count) (length ys) && (nat_le (to.index + count) (length xs) && list_all is_set (slice_range ys from.index (from.index + count))))
-
       none_moved : (b : Bool) → (if b then Some memory else None) ≡ option_map now_with (option_map (pasted (cells type xs) to.index (cells source_type ys) from.index) (if b then Some 0 else None))
       none_moved false = refl
       none_moved true = ap Some (sym (ap (λ (zs : List Cell). now_with (cells type zs)) (none_pasted xs to.index ys from.index) ∙ as_before (cells type xs) e))

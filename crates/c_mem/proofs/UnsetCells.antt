@@ -1,5 +1,5 @@
 -- An object that has the shape of unset cells, one a field, is these once it is unset, and has no field of more than one byte.
-use Rattle.std.proofs.Common.{◌≡◌, ℕ, zero, suc, List, [], ◌∷◌, length, map, refl, ap, ◌∙◌, arith}
+use Rattle.std.proofs.Common.{◌≡◌, zero, suc, List, [], ◌∷◌, length, map, refl, ap, ◌∙◌, arith}
 use Rattle.c_meaning.specs.declared.cells.Cell.TheVariants.{Unset as unset}
 use Rattle.c_meaning.specs.declared.cells.CellType.{CellType}
 use Rattle.c_meaning.specs.declared.cells.CellType.TheVariants.{U8 as u8, U16 as u16, U32 as u32, U64 as u64, Flag as flag, Pointer as pointer}

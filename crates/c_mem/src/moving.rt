@@ -1,6 +1,6 @@
 // `memmove` (ISO/IEC 9899:1999, 7.21.2.2).
 
-ghost use Rattle.std.specs.Prelude.{◌≡◌, ℕ, ◌+◌, ◌<◌, ◌≤◌, ◌&&◌, ◌||◌, if◌then◌else◌, Bool, Some, None, List, drop, length, nat_eq, nat_lt, nat_le, IfSome, slice_get, slice_range, false};
+ghost use Rattle.std.specs.Prelude.{◌≡◌, ℕ, ◌+◌, ◌<◌, ◌≤◌, ◌&&◌, ◌||◌, if◌then◌else◌, Bool, Some, None, List, length, nat_eq, nat_lt, nat_le, IfSome, slice_range, false};
 ghost use Rattle.std.specs.List.{list_all};
 ghost use Rattle.c_meaning.specs.declared.cells.CellType.TheVariants.{U8 as u8};
 ghost use Rattle.c_meaning.specs.CMemory.{cells, bytes_of, whole_cells, same_type, is_set, move_bytes};

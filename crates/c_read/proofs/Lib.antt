@@ -1,3 +1,4 @@
+mod MappedErrors
 mod ReadBack
 mod ReadLaws
 mod Starting

@@ -17,8 +17,8 @@ use Rattle.c_read_grammar.proofs.Progress.{goes-on-here, ends-whole, ends-early,
 use Rattle.c_read_tokens.specs.declared.kinds.Kind.{Kind}
 use Rattle.c_read_tokens.specs.declared.kinds.Kind.TheVariants as kinds
 use Rattle.c_read.specs.declared.machine.Machine.{Machine}
-use Rattle.c_read_nodes.specs.declared.values.Value.{Value}
-use Rattle.c_read_nodes.specs.declared.values.Value.TheVariants as vals
+use Rattle.c_read_nodes.specs.declared.values.SemanticValue.{SemanticValue}
+use Rattle.c_read_nodes.specs.declared.values.SemanticValue.TheVariants as vals
 use Rattle.c_read.specs.declared.reading.Ending.{Ending}
 use Rattle.c_read.specs.declared.reading.Ending.TheVariants as ending
 use Rattle.c_read.specs.declared.reading.Step.TheVariants as step
@@ -29,7 +29,7 @@ use Rattle.c_read_nodes.specs.Makers.{made}
 use Rattle.c_read.specs.Reading.{EndsThere, StepsThere, StepsOn}
 use Rattle.c_read_nodes.specs.Seen.{seen_values}
 
-unit_seen : (nodes : Nodes) (vs : List Value) (u : List ItemTree) → seen_values nodes vs ≡ a_unit u ∷ [] → u ≡ unit_tree nodes
+unit_seen : (nodes : Nodes) (vs : List SemanticValue) (u : List ItemTree) → seen_values nodes vs ≡ a_unit u ∷ [] → u ≡ unit_tree nodes
 unit_seen nodes [] u h = absurd (cc h)
 unit_seen nodes (vals.Unit ∷ vs) u h = cc h
 unit_seen nodes (v ∷ vs) u h = absurd (cc h)

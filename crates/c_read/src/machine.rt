@@ -9,7 +9,7 @@ ghost use Rattle.c_read_nodes.specs.Makers.{made, IsFit};
 ghost use Rattle.c_read.specs.Machines.{AnswersMeeting, AnswersToken, AnswersEnd, state_of};
 
 use c_read_grammar::{ItemSym, Sym, Want};
-use c_read_nodes::{Maker, Value};
+use c_read_nodes::{Maker, SemanticValue};
 use c_read_table::{Move, Wants, may_end, move_of};
 use c_read_tokens::Kind;
 use c_text::Unit;
@@ -43,7 +43,7 @@ impl Machine {
         ensures fit { IfOk result (λ m. IsFit m.maker) }
     {
         let mut values = Stack::new(alloc);
-        values.push(Value::Unit)?;
+        values.push(SemanticValue::Unit)?;
         let mut wants = Stack::new(alloc);
         wants.push(Want::Read(Sym::Item(ItemSym::Unit)))?;
         Ok(Machine {

@@ -176,10 +176,7 @@ impl Machine {
 pub fn read(alloc: Global, bytes: &[u8]) -> Result<Unit, ReadFault>
     ensures { AnswersRead bytes.now result }
 {
-    let body = match behind_lines(bytes) {
-        Ok(body) => body,
-        Err(at) => return Err(ReadFault::NotC { at: at as u64 }),
-    };
+    let body = behind_lines(bytes).map_err(|at| ReadFault::NotC { at: at as u64 })?;
     let mut machine = Machine::new(alloc)?;
     match machine.read_body(bytes.len(), body)? {
         Ending::Whole => Ok(machine.maker.unit),

@@ -19,7 +19,7 @@ use Rattle.c_read_grammar.specs.declared.actions.ExprAction.TheVariants.{AddOper
 use Rattle.c_read_grammar.specs.declared.actions.Want.{Want}
 use Rattle.c_read_grammar.specs.declared.actions.Want.TheVariants.{Read, Perform}
 use Rattle.c_read_grammar.specs.Machine as m
-use Rattle.c_read_grammar.specs.Machine.{Move, Take, Pass, Stop, followed, behind_variable, expr, token, product_rest}
+use Rattle.c_read_grammar.specs.Machine.{Move, Take, Pass, Stop, followed, expr, token, product_rest}
 use Rattle.c_read_grammar.specs.Texts.{IsToken}
 use Rattle.c_read_grammar.proofs.ReadsExpr.{open_paren, close_paren}
 use Rattle.c_read_grammar.proofs.Words.{PostWord, TypeWord, ExprWord, TokenWord, Words}

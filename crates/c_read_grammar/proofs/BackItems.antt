@@ -14,7 +14,7 @@ use Rattle.c_read_grammar.specs.declared.symbols.ItemSym.TheVariants.{Unit, Stat
 use Rattle.c_read_grammar.specs.declared.symbols.TokenSym.TheVariants.{Name}
 use Rattle.c_read_grammar.specs.declared.actions.ItemAction.TheVariants.{MakeResult, AddParam, MakeField}
 use Rattle.c_read_grammar.specs.Machine as m
-use Rattle.c_read_grammar.specs.Machine.{Move, Take, Pass, Stop, followed, expr, stmt, item, token, do_item, function_wants, local_wants}
+use Rattle.c_read_grammar.specs.Machine.{followed, stmt, item, token, do_item, function_wants, local_wants}
 use Rattle.c_read_grammar.specs.Texts.{IsToken}
 use Rattle.c_read_grammar.proofs.ReadsCode.{close_brace}
 use Rattle.c_read_grammar.proofs.Words.{TypeWord, StmtWord, ItemWord', BodyWord, FieldWord, ItemWord, MakesStmt, Words}

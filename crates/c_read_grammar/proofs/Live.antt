@@ -23,7 +23,7 @@ use Rattle.c_read_grammar.specs.declared.symbols.TokenSym.TheVariants as k
 use Rattle.c_read_grammar.specs.declared.actions.Want.{Want}
 use Rattle.c_read_grammar.specs.declared.actions.Want.TheVariants.{Read, Perform}
 use Rattle.c_read_grammar.specs.Machine as m
-use Rattle.c_read_grammar.specs.Machine.{Move, Take, Pass, Stop, move, may_end}
+use Rattle.c_read_grammar.specs.Machine.{Move, Take, Pass, Stop, move}
 use Rattle.c_read_grammar.specs.Values.{Val, perform, kept}
 use Rattle.c_read_grammar.specs.Feeding.{State, fed, feed, feeds, go_on, ends, reads, start}
 use Rattle.c_read_grammar.specs.Texts.{IsText, IsLive, IsToken, AreTokens}

@@ -11,8 +11,8 @@ use Rattle.c_read_nodes.specs.declared.statements.Branch.{Branch}
 use Rattle.c_read_nodes.specs.declared.statements.Statement.{Statement}
 use Rattle.c_read_nodes.specs.declared.statements.Statement.TheVariants as says
 use Rattle.c_read_nodes.specs.declared.values.Arm.{Arm}
-use Rattle.c_read_nodes.specs.declared.values.Value.{Value}
-use Rattle.c_read_nodes.specs.declared.values.Value.TheVariants as vals
+use Rattle.c_read_nodes.specs.declared.values.SemanticValue.{SemanticValue}
+use Rattle.c_read_nodes.specs.declared.values.SemanticValue.TheVariants as vals
 use Rattle.c_read_nodes.specs.Makers.{Grew}
 use Rattle.c_read_nodes.specs.Seen.{seen_value, seen_values, ValueFits, ValuesFit}
 use Rattle.c_read_nodes.specs.Shapes.{fits}
@@ -32,7 +32,7 @@ arm_code old mid new later arm end other g k fits test body is whole =
     cc (t, b, o)
 
 -- A value above others than before.
-pub above : (nodes : Nodes) (n : CNameId) (ws ms : List Value) (v : Value) → ValueFits nodes (vals.Name n ∷ ws) v → ValueFits nodes ms v
+pub above : (nodes : Nodes) (n : CNameId) (ws ms : List SemanticValue) (v : SemanticValue) → ValueFits nodes (vals.Name n ∷ ws) v → ValueFits nodes ms v
 above nodes n ws ms vals.Unit h = absurd (cc h)
 above nodes n ws ms (vals.Name x) h = h
 above nodes n ws ms (vals.Number x) h = h
@@ -52,20 +52,20 @@ above nodes n ws ms (vals.Params x) h = h
 above nodes n ws ms (vals.Locals x) h = h
 
 -- A variable of the name below the topmost value.
-module _ (old new : Nodes) (top : Value) (n : CNameId) (us ms vs ws pushed : List Value) (g : Grew old new) (fit : ValuesFit old us) (first : us ≡ top ∷ ms) (second : ms ≡ vals.Name n ∷ vs) (stack : pushed ≡ top ∷ ws) where
+module _ (old new : Nodes) (top : SemanticValue) (n : CNameId) (us ms vs ws pushed : List SemanticValue) (g : Grew old new) (fit : ValuesFit old us) (first : us ≡ top ∷ ms) (second : ms ≡ vals.Name n ∷ vs) (stack : pushed ≡ top ∷ ws) where
   whole : us ≡ top ∷ (vals.Name n ∷ vs)
-  whole = first ∙ ap (λ (x : List Value). top ∷ x) second
+  whole = first ∙ ap (λ (x : List SemanticValue). top ∷ x) second
 
   there : ValuesFit old (top ∷ (vals.Name n ∷ vs))
-  there = subst (λ (x : List Value). ValuesFit old x) whole fit
+  there = subst (λ (x : List SemanticValue). ValuesFit old x) whole fit
 
   pub below_made : seen_values new ws ≡ an_expr (variable (bytes_at old.names n.0)) ∷ seen_values old vs → seen_values new pushed ≡ perform_expr MakeVariableBelow (seen_values old us)
   below_made made =
       let t : seen_value new top ≡ seen_value old top = value_same old new g.sound g.extends g.items (vals.Name n ∷ vs) top there.0 in
       let both : seen_value new top ∷ seen_values new ws ≡ seen_value old top ∷ (an_expr (variable (bytes_at old.names n.0)) ∷ seen_values old vs) = cc (t, made) in
-      ap (seen_values new) stack ∙ both ∙ sym (ap (λ (x : List Value). perform_expr MakeVariableBelow (seen_values old x)) whole)
+      ap (seen_values new) stack ∙ both ∙ sym (ap (λ (x : List SemanticValue). perform_expr MakeVariableBelow (seen_values old x)) whole)
 
   pub below_fit : ValuesFit new ws → ValuesFit new pushed
   below_fit kept =
       let both : ValuesFit new (top ∷ ws) = (above new n vs ws top (value_fits old new g.sound g.extends (vals.Name n ∷ vs) top there.0), kept) in
-      subst (λ (x : List Value). ValuesFit new x) (sym stack) both
+      subst (λ (x : List SemanticValue). ValuesFit new x) (sym stack) both

@@ -25,8 +25,8 @@ use Rattle.c_text.proofs.Trees.{bytes_at-front, expr_of-kept, code_of-kept}
 use Rattle.c_read_grammar.specs.Values.{a_name, a_string, an_expr, some_args, a_type, a_code, a_statement, a_field, some_fields, a_result, some_params, some_locals, a_unit}
 use Rattle.c_read_nodes.specs.declared.statements.Statement.{Statement}
 use Rattle.c_read_nodes.specs.declared.statements.Statement.TheVariants as says
-use Rattle.c_read_nodes.specs.declared.values.Value.{Value}
-use Rattle.c_read_nodes.specs.declared.values.Value.TheVariants as vals
+use Rattle.c_read_nodes.specs.declared.values.SemanticValue.{SemanticValue}
+use Rattle.c_read_nodes.specs.declared.values.SemanticValue.TheVariants as vals
 use Rattle.c_read_nodes.specs.Seen.{seen_value, seen_values, ValueFits, ValuesFit}
 use Rattle.c_read_nodes.specs.Statements.{code_with, StatementFits}
 
@@ -129,7 +129,7 @@ module _ (old new : Nodes) (sound : IsSound old) (grows : Extends old new) where
   unfolding unit_tree
   unit_same is = ap (map (made_item new)) is ∙ map_agrees (made_item new) (made_item old) old.items (λ i x e. item_same x (sound.items i x e))
 
-  pub value_same : new.items ≡ old.items → (below : List Value) (v : Value) → ValueFits old below v → seen_value new v ≡ seen_value old v
+  pub value_same : new.items ≡ old.items → (below : List SemanticValue) (v : SemanticValue) → ValueFits old below v → seen_value new v ≡ seen_value old v
   value_same is below (vals.Name n) h = ap a_name (name_same n h)
   value_same is below (vals.Number n) h = refl
   value_same is below (vals.Text s) h = ap a_string (string_same s.0 h)
@@ -148,7 +148,7 @@ module _ (old new : Nodes) (sound : IsSound old) (grows : Extends old new) where
   value_same is below (vals.Locals ls) h = ap some_locals (locals_same ls h)
   value_same is below vals.Unit h = ap a_unit (unit_same is)
 
-  pub values_same : new.items ≡ old.items → (vs : List Value) → ValuesFit old vs → seen_values new vs ≡ seen_values old vs
+  pub values_same : new.items ≡ old.items → (vs : List SemanticValue) → ValuesFit old vs → seen_values new vs ≡ seen_values old vs
   values_same is [] h = refl
   values_same is (v ∷ vs) h = let a = value_same is vs v h.0 in let b = values_same is vs h.1 in cc (a, b)
 
@@ -230,7 +230,7 @@ module _ (old new : Nodes) (sound : IsSound old) (grows : Extends old new) where
   statement_fits says.Default h = tt
   statement_fits (says.Label name) h = more_names name h
 
-  pub value_fits : (below : List Value) (v : Value) → ValueFits old below v → ValueFits new below v
+  pub value_fits : (below : List SemanticValue) (v : SemanticValue) → ValueFits old below v → ValueFits new below v
   value_fits below (vals.Name n) h = more_names n h
   value_fits below (vals.Number n) h = h
   value_fits below (vals.Text s) h = more_strings s.0 h
@@ -249,6 +249,6 @@ module _ (old new : Nodes) (sound : IsSound old) (grows : Extends old new) where
   value_fits below (vals.Locals ls) h = locals_fit ls h
   value_fits below vals.Unit h = h
 
-  pub values_fit : (vs : List Value) → ValuesFit old vs → ValuesFit new vs
+  pub values_fit : (vs : List SemanticValue) → ValuesFit old vs → ValuesFit new vs
   values_fit [] h = tt
   values_fit (v ∷ vs) h = (value_fits vs v h.0, values_fit vs h.1)

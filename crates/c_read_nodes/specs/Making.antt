@@ -18,16 +18,16 @@ use Rattle.c_read_grammar.specs.declared.actions.ItemAction.TheVariants as item_
 use Rattle.c_read_nodes.specs.declared.statements.Statement.TheVariants as says
 use Rattle.c_read_nodes.specs.declared.values.Product.{Product}
 use Rattle.c_read_nodes.specs.declared.values.Product.TheVariants as makes
-use Rattle.c_read_nodes.specs.declared.values.Value.{Value}
-use Rattle.c_read_nodes.specs.declared.values.Value.TheVariants as vals
+use Rattle.c_read_nodes.specs.declared.values.SemanticValue.{SemanticValue}
+use Rattle.c_read_nodes.specs.declared.values.SemanticValue.TheVariants as vals
 
 -- What is made, and the values that are left.
 pub record Making : Type 0 where
   pub product : Product
-  pub vals : List Value
+  pub vals : List SemanticValue
 
 -- Where the topmost values don't fit the action, this stands for nothing.
-abbrev pub making_expr : ExprAction → List Value → Making
+abbrev pub making_expr : ExprAction → List SemanticValue → Making
 making_expr expr_does.MakeVariable (vals.Name name ∷ vs) = record { product = makes.Expr (exprs.Name name); vals = vs }
 making_expr expr_does.MakeNumber (vals.Number number ∷ vs) = record { product = makes.Expr (exprs.Number number); vals = vs }
 making_expr expr_does.MakeMember (vals.Name field ∷ vals.Expr of ∷ vs) = record { product = makes.Expr (exprs.Member of field); vals = vs }
@@ -45,7 +45,7 @@ making_expr expr_does.AddArg (vals.Expr argument ∷ vals.Args given ∷ vs) = r
 making_expr expr_does.AddSizeof (vals.Name name ∷ vals.Args given ∷ vs) = record { product = makes.Value (vals.Args (given ++ args.SizeOf name ∷ [])); vals = vs }
 making_expr _ vs = record { product = makes.Value vals.Block; vals = vs }
 
-abbrev pub making_type : TypeAction → List Value → Making
+abbrev pub making_type : TypeAction → List SemanticValue → Making
 making_type (type_does.MakeUint uint) vs = record { product = makes.Value (vals.Type (types.Uint uint)); vals = vs }
 making_type type_does.MakeUintPointer (vals.Type (types.Uint uint) ∷ vs) = record { product = makes.Value (vals.Type (types.UintPointer uint)); vals = vs }
 making_type type_does.MakeSize vs = record { product = makes.Value (vals.Type types.Size); vals = vs }
@@ -54,7 +54,7 @@ making_type type_does.MakeStructPointer (vals.Name name ∷ vs) = record { produ
 making_type type_does.MakeText vs = record { product = makes.Value (vals.Type types.Text); vals = vs }
 making_type _ vs = record { product = makes.Value vals.Block; vals = vs }
 
-abbrev pub making_stmt : StmtAction → List Value → Making
+abbrev pub making_stmt : StmtAction → List SemanticValue → Making
 making_stmt stmt_does.StartBlock vs = record { product = makes.Value (vals.Block); vals = vs }
 making_stmt stmt_does.MakeNested (vals.Code inner ∷ vs) = record { product = makes.Value (vals.Statement (says.Nested inner)); vals = vs }
 making_stmt stmt_does.MakeEmpty vs = record { product = makes.Value (vals.Statement (says.Empty)); vals = vs }
@@ -72,7 +72,7 @@ making_stmt stmt_does.MakeDefault vs = record { product = makes.Value (vals.Stat
 making_stmt stmt_does.MakeLabel (vals.Name name ∷ vs) = record { product = makes.Value (vals.Statement (says.Label name)); vals = vs }
 making_stmt _ vs = record { product = makes.Value vals.Block; vals = vs }
 
-abbrev pub making_item : ItemAction → List Value → Making
+abbrev pub making_item : ItemAction → List SemanticValue → Making
 making_item item_does.StartFields vs = record { product = makes.Value (vals.Fields []); vals = vs }
 making_item item_does.MakeField (vals.Name name ∷ vals.Type kind ∷ vs) = record { product = makes.Value (vals.Field (record { kind = held.Plain kind; name = name; count = None })); vals = vs }
 making_item item_does.MakeStructField (vals.Name name ∷ vals.Name of ∷ vs) = record { product = makes.Value (vals.Field (record { kind = held.Struct of; name = name; count = None })); vals = vs }
@@ -90,7 +90,7 @@ making_item item_does.AddInitialLocal (vals.Expr initial ∷ vals.Name name ∷ 
 making_item item_does.MakeFunction (vals.Code body ∷ vals.Locals locals ∷ vals.Params params ∷ vals.Name name ∷ vals.Outcome outcome ∷ vals.Unit ∷ vs) = record { product = makes.Item (items.Function outcome.linkage outcome.of name params locals body); vals = vs }
 making_item _ vs = record { product = makes.Value vals.Block; vals = vs }
 
-abbrev pub making : Action → List Value → Making
+abbrev pub making : Action → List SemanticValue → Making
 making (acts.Expr a) vs = making_expr a vs
 making (acts.Type a) vs = making_type a vs
 making (acts.Stmt a) vs = making_stmt a vs

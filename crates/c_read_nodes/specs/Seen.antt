@@ -9,10 +9,10 @@ use Rattle.c_read_grammar.specs.Values.{Val, a_name, a_number, a_string, an_expr
 use Rattle.c_read_nodes.specs.Statements.{code_with, StatementFits}
 use Rattle.c_read_nodes.specs.declared.values.Product.{Product}
 use Rattle.c_read_nodes.specs.declared.values.Product.TheVariants as makes
-use Rattle.c_read_nodes.specs.declared.values.Value.{Value}
-use Rattle.c_read_nodes.specs.declared.values.Value.TheVariants as vals
+use Rattle.c_read_nodes.specs.declared.values.SemanticValue.{SemanticValue}
+use Rattle.c_read_nodes.specs.declared.values.SemanticValue.TheVariants as vals
 
-abbrev pub seen_value : Nodes → Value → Val
+abbrev pub seen_value : Nodes → SemanticValue → Val
 seen_value nodes (vals.Name n) = a_name (bytes_at nodes.names n.0)
 seen_value nodes (vals.Number n) = a_number n
 seen_value nodes (vals.Text s) = a_string (bytes_at nodes.strings s.0)
@@ -31,12 +31,12 @@ seen_value nodes (vals.Params ps) = some_params (map (param_tree nodes.names) ps
 seen_value nodes (vals.Locals ls) = some_locals (map (local_tree nodes.names (expr_of nodes)) ls)
 seen_value nodes vals.Unit = a_unit (unit_tree nodes)
 
-abbrev pub seen_values : Nodes → List Value → List Val
+abbrev pub seen_values : Nodes → List SemanticValue → List Val
 seen_values nodes [] = []
 seen_values nodes (v ∷ vs) = seen_value nodes v ∷ seen_values nodes vs
 
 -- What a value names is there, where `below` stand below it; nothing stands below the unit.
-abbrev pub ValueFits : Nodes → (below : List Value) → Value → Type 0
+abbrev pub ValueFits : Nodes → (below : List SemanticValue) → SemanticValue → Type 0
 ValueFits nodes below (vals.Name n) = HasName nodes n
 ValueFits nodes below (vals.Number n) = IsLiteral n
 ValueFits nodes below (vals.Text s) = s.0 < length nodes.strings
@@ -55,7 +55,7 @@ ValueFits nodes below (vals.Params ps) = HasParams nodes ps
 ValueFits nodes below (vals.Locals ls) = HasLocals nodes ls
 ValueFits nodes below vals.Unit = below ≡ []
 
-abbrev pub ValuesFit : Nodes → List Value → Type 0
+abbrev pub ValuesFit : Nodes → List SemanticValue → Type 0
 ValuesFit nodes [] = ⊤
 ValuesFit nodes (v ∷ vs) = ValueFits nodes vs v × ValuesFit nodes vs
 
@@ -66,7 +66,7 @@ made_with nodes (makes.Expr x) vs = an_expr (made_expr nodes.names (expr_of node
 made_with nodes (makes.Item x) vs = a_unit (unit_tree nodes ++ made_item nodes x ∷ []) ∷ vs
 
 -- What it names is there.
-abbrev pub ProductFits : Nodes → (below : List Value) → Product → Type 0
+abbrev pub ProductFits : Nodes → (below : List SemanticValue) → Product → Type 0
 ProductFits nodes below (makes.Value v) = ValueFits nodes below v
 ProductFits nodes below (makes.Expr x) = FitsExpr nodes (length nodes.exprs) x
 ProductFits nodes below (makes.Item x) = FitsItem nodes x × (below ≡ [])

@@ -18,10 +18,10 @@ use Rattle.c_read_grammar.specs.declared.actions.ItemAction.{ItemAction}
 use Rattle.c_read_grammar.specs.declared.actions.ItemAction.TheVariants as item_does
 use Rattle.c_read_nodes.specs.declared.shapes.Shape.{Shape}
 use Rattle.c_read_nodes.specs.declared.shapes.Shape.TheVariants as shapes
-use Rattle.c_read_nodes.specs.declared.values.Value.{Value}
-use Rattle.c_read_nodes.specs.declared.values.Value.TheVariants as vals
+use Rattle.c_read_nodes.specs.declared.values.SemanticValue.{SemanticValue}
+use Rattle.c_read_nodes.specs.declared.values.SemanticValue.TheVariants as vals
 
-abbrev pub is_shape : Shape → Value → Bool
+abbrev pub is_shape : Shape → SemanticValue → Bool
 is_shape shapes.Name (vals.Name _) = true
 is_shape shapes.Number (vals.Number _) = true
 is_shape shapes.Text (vals.Text _) = true
@@ -44,7 +44,7 @@ is_shape shapes.Unit vals.Unit = true
 is_shape _ _ = false
 
 -- The topmost values have these shapes.
-abbrev pub fits : List Shape → List Value → Bool
+abbrev pub fits : List Shape → List SemanticValue → Bool
 fits ss vs = all_fit is_shape ss vs
 
 -- What an action takes, the topmost first.
@@ -117,12 +117,12 @@ takes (acts.Stmt a) = takes_stmt a
 takes (acts.Item a) = takes_item a
 
 -- What else is asked: what is pointed from is no literal, a target is an lvalue, and only some operators repeat.
-abbrev pub value_expr : Value → Option CExprId
+abbrev pub value_expr : SemanticValue → Option CExprId
 value_expr (vals.Expr e) = Some e
 value_expr _ = None
 
 -- the expression that stands there, if one does
-abbrev pub expr_in : Option Value → Option CExprId
+abbrev pub expr_in : Option SemanticValue → Option CExprId
 expr_in None = None
 expr_in (Some v) = value_expr v
 
@@ -130,25 +130,25 @@ abbrev pub points : Nodes → Option CExprId → Bool
 points nodes None = false
 points nodes (Some e) = not (is_literal (expr_of nodes e.0))
 
-abbrev pub is_pointer : Nodes → Option Value → Bool
+abbrev pub is_pointer : Nodes → Option SemanticValue → Bool
 is_pointer nodes v = points nodes (expr_in v)
 
 abbrev pub is_assigned : Nodes → Option CExprId → Bool
 is_assigned nodes None = false
 is_assigned nodes (Some e) = is_lvalue (expr_of nodes e.0)
 
-abbrev pub is_target : Nodes → Option Value → Bool
+abbrev pub is_target : Nodes → Option SemanticValue → Bool
 is_target nodes v = is_assigned nodes (expr_in v)
 
 abbrev pub repeats_lawfully : COp → List CExprId → Bool
 repeats_lawfully op [] = true
 repeats_lawfully op (_ ∷ _) = repeats op
 
-abbrev pub is_operation_of : COp → Option Value → Bool
+abbrev pub is_operation_of : COp → Option SemanticValue → Bool
 is_operation_of op (Some (vals.Operation o)) = repeats_lawfully op o.others
 is_operation_of op _ = false
 
-abbrev pub meets : Nodes → Action → List Value → Bool
+abbrev pub meets : Nodes → Action → List SemanticValue → Bool
 meets nodes (acts.Expr expr_does.MakeMember) vs = is_pointer nodes (slice_get vs 1)
 meets nodes (acts.Expr expr_does.MakeElement) vs = is_pointer nodes (slice_get vs 1)
 meets nodes (acts.Expr expr_does.MakePointed) vs = is_pointer nodes (slice_get vs 0)

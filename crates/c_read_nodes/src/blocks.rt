@@ -18,7 +18,7 @@ use crate::maker::Maker;
 use crate::pops::{pop_arm, pop_block, pop_code, pop_name, pop_statement};
 use crate::shapes::Shape;
 use crate::statements::{Branch, Statement};
-use crate::values::{Arm, Value};
+use crate::values::{Arm, SemanticValue};
 use c_text::{CExpr, CStmt, CStmtId, Otherwise};
 use stacks::fits;
 use wf_text::NoMemory;
@@ -92,10 +92,10 @@ impl Maker {
     {
         if fits(&[Shape::Block], &self.values) {
             pop_block(&mut self.values);
-            return self.values.push(Value::Code(code));
+            return self.values.push(SemanticValue::Code(code));
         }
         if fits(&[Shape::Locals], &self.values) {
-            return self.values.push(Value::Code(code));
+            return self.values.push(SemanticValue::Code(code));
         }
         self.values.clear();
         Ok(())
@@ -171,7 +171,8 @@ impl Maker {
             let arm = pop_arm(&mut self.values);
             later = self.with_arm(later, arm)?;
         }
-        self.values.push(Value::Statement(Statement::If(later)))
+        self.values
+            .push(SemanticValue::Statement(Statement::If(later)))
     }
 
     /// A variable of the name below the topmost value.

@@ -6,7 +6,7 @@ ghost use Rattle.c_text.specs.CNodes.{expr_of};
 ghost use Rattle.c_read_nodes.specs.Seen.{ValuesFit};
 ghost use Rattle.c_read_nodes.specs.Shapes.{value_expr, expr_in, is_pointer, is_target, repeats_lawfully, is_operation_of, meets};
 
-use crate::values::Value;
+use crate::values::SemanticValue;
 use c_read_grammar::{Action, ExprAction, StmtAction};
 use c_read_tokens::repeats;
 use c_text::{CExpr, CExprId, COp, Unit};
@@ -35,24 +35,24 @@ fn is_lvalue(unit: &Unit, e: CExprId) -> bool
 }
 
 /// The value, where it is an expression.
-fn value_expr(value: &Value) -> Option<CExprId>
+fn value_expr(value: &SemanticValue) -> Option<CExprId>
     ensures { result ≡ value_expr value.now }
 {
     match value {
-        Value::Expr(e) => Some(*e),
+        SemanticValue::Expr(e) => Some(*e),
         _ => None,
     }
 }
 
 /// The value so far below the top, where it is an expression.
-fn expr_at(values: &Stack<Value>, depth: usize) -> Option<CExprId>
+fn expr_at(values: &Stack<SemanticValue>, depth: usize) -> Option<CExprId>
     ensures { result ≡ expr_in (slice_get values.now depth) }
 {
     value_expr(values.get(depth)?)
 }
 
 /// Whether the value so far below the top is an expression that isn't a literal.
-fn is_pointer(unit: &Unit, values: &Stack<Value>, depth: usize) -> bool
+fn is_pointer(unit: &Unit, values: &Stack<SemanticValue>, depth: usize) -> bool
     requires { ValuesFit unit.now values.now }
     ensures { result ≡ is_pointer unit.now (slice_get values.now depth) }
 {
@@ -63,7 +63,7 @@ fn is_pointer(unit: &Unit, values: &Stack<Value>, depth: usize) -> bool
 }
 
 /// Whether the value so far below the top is an lvalue.
-fn is_target(unit: &Unit, values: &Stack<Value>, depth: usize) -> bool
+fn is_target(unit: &Unit, values: &Stack<SemanticValue>, depth: usize) -> bool
     requires { ValuesFit unit.now values.now }
     ensures { result ≡ is_target unit.now (slice_get values.now depth) }
 {
@@ -84,17 +84,20 @@ fn repeats_lawfully(op: COp, others: &[CExprId]) -> bool
 }
 
 /// Whether the value on the top is an operation with no more operands than the operator allows.
-fn is_operation_of(op: COp, values: &Stack<Value>) -> bool
+fn is_operation_of(op: COp, values: &Stack<SemanticValue>) -> bool
     ensures { result ≡ is_operation_of op (slice_get values.now 0) }
 {
     match values.get(0) {
-        Some(Value::Operation(operation)) => repeats_lawfully(op, operation.others.as_slice()),
+        Some(SemanticValue::Operation(operation)) => repeats_lawfully(
+            op,
+            operation.others.as_slice(),
+        ),
         _ => false,
     }
 }
 
 /// Whether the topmost values are what the action asks for.
-pub(crate) fn meets(unit: &Unit, action: Action, values: &Stack<Value>) -> bool
+pub(crate) fn meets(unit: &Unit, action: Action, values: &Stack<SemanticValue>) -> bool
     requires { ValuesFit unit.now values.now }
     ensures { result ≡ meets unit.now action values.now }
 {

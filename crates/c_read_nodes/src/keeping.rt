@@ -9,7 +9,7 @@ ghost use Rattle.c_read_tokens.specs.Kinds.{token_of};
 ghost use Rattle.c_read_nodes.specs.Makers.{made, IsFit};
 
 use crate::maker::Maker;
-use crate::values::Value;
+use crate::values::SemanticValue;
 use c_read_tokens::Kind;
 use wf_text::NoMemory;
 
@@ -24,7 +24,7 @@ impl Maker {
         match kind {
             Kind::Name => self.keep_name(text),
             Kind::Text => self.keep_text(text),
-            Kind::Number(number) => self.values.push(Value::Number(number)),
+            Kind::Number(number) => self.values.push(SemanticValue::Number(number)),
             _ => Ok(()),
         }
     }
@@ -38,7 +38,7 @@ impl Maker {
     {
         self.unit.is_sound();
         let name = self.unit.add_name(text)?;
-        self.values.push(Value::Name(name))
+        self.values.push(SemanticValue::Name(name))
     }
 
     /// Keeps a string.
@@ -50,6 +50,6 @@ impl Maker {
     {
         self.unit.is_sound();
         let string = self.unit.add_string(text)?;
-        self.values.push(Value::Text(string))
+        self.values.push(SemanticValue::Text(string))
     }
 }

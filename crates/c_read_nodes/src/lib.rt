@@ -18,4 +18,4 @@ pub mod statements;
 pub mod values;
 
 pub use maker::Maker;
-pub use values::Value;
+pub use values::SemanticValue;

@@ -8,7 +8,7 @@ ghost use Rattle.c_read_nodes.specs.Shapes.{fits, takes_expr, is_plain};
 ghost use Rattle.c_read_nodes.specs.declared.shapes.Shape.TheVariants as shapes;
 
 use crate::pops::{pop_args, pop_expr, pop_name, pop_number, pop_operation, pop_type};
-use crate::values::{OpenOperation, Product, Value};
+use crate::values::{OpenOperation, Product, SemanticValue};
 use c_read_grammar::ExprAction;
 use c_text::{CArg, CCall, CExpr, CList, COp, CUnary};
 use stacks::Stack;
@@ -16,7 +16,7 @@ use std::alloc::Global;
 use wf_text::NoMemory;
 
 /// A variable.
-pub(crate) fn make_variable(values: &mut Stack<Value>) -> Product
+pub(crate) fn make_variable(values: &mut Stack<SemanticValue>) -> Product
     requires { fits (shapes.Name ∷ []) values.old ≡ true }
     ensures { making (acts.Expr does.MakeVariable) values.old ≡ record { product = result; vals = values.new } }
 {
@@ -25,7 +25,7 @@ pub(crate) fn make_variable(values: &mut Stack<Value>) -> Product
 }
 
 /// A literal.
-pub(crate) fn make_number(values: &mut Stack<Value>) -> Product
+pub(crate) fn make_number(values: &mut Stack<SemanticValue>) -> Product
     requires { fits (shapes.Number ∷ []) values.old ≡ true }
     ensures { making (acts.Expr does.MakeNumber) values.old ≡ record { product = result; vals = values.new } }
 {
@@ -34,7 +34,7 @@ pub(crate) fn make_number(values: &mut Stack<Value>) -> Product
 }
 
 /// A field.
-pub(crate) fn make_member(values: &mut Stack<Value>) -> Product
+pub(crate) fn make_member(values: &mut Stack<SemanticValue>) -> Product
     requires { fits (shapes.Name ∷ shapes.Expr ∷ []) values.old ≡ true }
     ensures { making (acts.Expr does.MakeMember) values.old ≡ record { product = result; vals = values.new } }
 {
@@ -44,7 +44,7 @@ pub(crate) fn make_member(values: &mut Stack<Value>) -> Product
 }
 
 /// An element.
-pub(crate) fn make_element(values: &mut Stack<Value>) -> Product
+pub(crate) fn make_element(values: &mut Stack<SemanticValue>) -> Product
     requires { fits (shapes.Expr ∷ shapes.Expr ∷ []) values.old ≡ true }
     ensures { making (acts.Expr does.MakeElement) values.old ≡ record { product = result; vals = values.new } }
 {
@@ -54,7 +54,7 @@ pub(crate) fn make_element(values: &mut Stack<Value>) -> Product
 }
 
 /// What a pointer points to.
-pub(crate) fn make_pointed(values: &mut Stack<Value>) -> Product
+pub(crate) fn make_pointed(values: &mut Stack<SemanticValue>) -> Product
     requires { fits (shapes.Expr ∷ []) values.old ≡ true }
     ensures { making (acts.Expr does.MakePointed) values.old ≡ record { product = result; vals = values.new } }
 {
@@ -63,13 +63,13 @@ pub(crate) fn make_pointed(values: &mut Stack<Value>) -> Product
 }
 
 /// An operation of two operands.
-pub(crate) fn start_operation(alloc: Global, values: &mut Stack<Value>) -> Product
+pub(crate) fn start_operation(alloc: Global, values: &mut Stack<SemanticValue>) -> Product
     requires { fits (shapes.Expr ∷ shapes.Expr ∷ []) values.old ≡ true }
     ensures { making (acts.Expr does.StartOperation) values.old ≡ record { product = result; vals = values.new } }
 {
     let second = pop_expr(values);
     let first = pop_expr(values);
-    Product::Value(Value::Operation(OpenOperation {
+    Product::Value(SemanticValue::Operation(OpenOperation {
         first,
         second,
         others: CList::new(alloc),
@@ -77,7 +77,7 @@ pub(crate) fn start_operation(alloc: Global, values: &mut Stack<Value>) -> Produ
 }
 
 /// One operand more of an operation.
-pub(crate) fn add_operand(values: &mut Stack<Value>) -> Result<Product, NoMemory>
+pub(crate) fn add_operand(values: &mut Stack<SemanticValue>) -> Result<Product, NoMemory>
     requires { fits (shapes.Expr ∷ shapes.Operation ∷ []) values.old ≡ true }
     ensures { IfOk result (λ product. making (acts.Expr does.AddOperand) values.old ≡ record { product = product; vals = values.new }) }
 {
@@ -89,7 +89,7 @@ pub(crate) fn add_operand(values: &mut Stack<Value>) -> Result<Product, NoMemory
         mut others,
     } = operation;
     others.push(operand)?;
-    Ok(Product::Value(Value::Operation(OpenOperation {
+    Ok(Product::Value(SemanticValue::Operation(OpenOperation {
         first,
         second,
         others,
@@ -97,7 +97,7 @@ pub(crate) fn add_operand(values: &mut Stack<Value>) -> Result<Product, NoMemory
 }
 
 /// A whole operation.
-pub(crate) fn make_operation(op: COp, values: &mut Stack<Value>) -> Product
+pub(crate) fn make_operation(op: COp, values: &mut Stack<SemanticValue>) -> Product
     requires { fits (shapes.Operation ∷ []) values.old ≡ true }
     ensures { making (acts.Expr (does.MakeOperation op)) values.old ≡ record { product = result; vals = values.new } }
 {
@@ -111,7 +111,7 @@ pub(crate) fn make_operation(op: COp, values: &mut Stack<Value>) -> Product
 }
 
 /// An operator before its operand.
-pub(crate) fn make_unary(op: CUnary, values: &mut Stack<Value>) -> Product
+pub(crate) fn make_unary(op: CUnary, values: &mut Stack<SemanticValue>) -> Product
     requires { fits (shapes.Expr ∷ []) values.old ≡ true }
     ensures { making (acts.Expr (does.MakeUnary op)) values.old ≡ record { product = result; vals = values.new } }
 {
@@ -120,7 +120,7 @@ pub(crate) fn make_unary(op: CUnary, values: &mut Stack<Value>) -> Product
 }
 
 /// A cast.
-pub(crate) fn make_cast(values: &mut Stack<Value>) -> Product
+pub(crate) fn make_cast(values: &mut Stack<SemanticValue>) -> Product
     requires { fits (shapes.Expr ∷ shapes.Type ∷ []) values.old ≡ true }
     ensures { making (acts.Expr does.MakeCast) values.old ≡ record { product = result; vals = values.new } }
 {
@@ -130,7 +130,7 @@ pub(crate) fn make_cast(values: &mut Stack<Value>) -> Product
 }
 
 /// A choice.
-pub(crate) fn make_choice(values: &mut Stack<Value>) -> Product
+pub(crate) fn make_choice(values: &mut Stack<SemanticValue>) -> Product
     requires { fits (shapes.Expr ∷ shapes.Expr ∷ shapes.Expr ∷ []) values.old ≡ true }
     ensures { making (acts.Expr does.MakeChoice) values.old ≡ record { product = result; vals = values.new } }
 {
@@ -141,7 +141,7 @@ pub(crate) fn make_choice(values: &mut Stack<Value>) -> Product
 }
 
 /// A call that has a value.
-pub(crate) fn make_called(values: &mut Stack<Value>) -> Product
+pub(crate) fn make_called(values: &mut Stack<SemanticValue>) -> Product
     requires { fits (shapes.Args ∷ shapes.Name ∷ []) values.old ≡ true }
     ensures { making (acts.Expr does.MakeCalled) values.old ≡ record { product = result; vals = values.new } }
 {
@@ -151,7 +151,7 @@ pub(crate) fn make_called(values: &mut Stack<Value>) -> Product
 }
 
 /// One argument more.
-pub(crate) fn add_arg(values: &mut Stack<Value>) -> Result<Product, NoMemory>
+pub(crate) fn add_arg(values: &mut Stack<SemanticValue>) -> Result<Product, NoMemory>
     requires { fits (shapes.Expr ∷ shapes.Args ∷ []) values.old ≡ true }
     ensures { IfOk result (λ product. making (acts.Expr does.AddArg) values.old ≡ record { product = product; vals = values.new }) }
 {
@@ -159,11 +159,11 @@ pub(crate) fn add_arg(values: &mut Stack<Value>) -> Result<Product, NoMemory>
     let given = pop_args(values);
     let mut given = given;
     given.push(CArg::Expr(argument))?;
-    Ok(Product::Value(Value::Args(given)))
+    Ok(Product::Value(SemanticValue::Args(given)))
 }
 
 /// One argument more, a size.
-pub(crate) fn add_sizeof(values: &mut Stack<Value>) -> Result<Product, NoMemory>
+pub(crate) fn add_sizeof(values: &mut Stack<SemanticValue>) -> Result<Product, NoMemory>
     requires { fits (shapes.Name ∷ shapes.Args ∷ []) values.old ≡ true }
     ensures { IfOk result (λ product. making (acts.Expr does.AddSizeof) values.old ≡ record { product = product; vals = values.new }) }
 {
@@ -171,14 +171,14 @@ pub(crate) fn add_sizeof(values: &mut Stack<Value>) -> Result<Product, NoMemory>
     let given = pop_args(values);
     let mut given = given;
     given.push(CArg::SizeOf(name))?;
-    Ok(Product::Value(Value::Args(given)))
+    Ok(Product::Value(SemanticValue::Args(given)))
 }
 
 /// Takes the action's values from the stack, and answers what is made of them.
 pub(crate) fn make(
     alloc: Global,
     action: ExprAction,
-    values: &mut Stack<Value>,
+    values: &mut Stack<SemanticValue>,
 ) -> Result<Product, NoMemory>
     requires fit { fits (takes_expr action) values.old ≡ true }
     requires plain { is_plain (acts.Expr action) ≡ true }
@@ -197,7 +197,7 @@ pub(crate) fn make(
         ExprAction::MakeCast => Ok(make_cast(values)),
         ExprAction::MakeChoice => Ok(make_choice(values)),
         ExprAction::MakeCalled => Ok(make_called(values)),
-        ExprAction::StartArgs => Ok(Product::Value(Value::Args(CList::new(alloc)))),
+        ExprAction::StartArgs => Ok(Product::Value(SemanticValue::Args(CList::new(alloc)))),
         ExprAction::AddArg => add_arg(values),
         ExprAction::AddSizeof => add_sizeof(values),
         ExprAction::MakeVariableBelow => unreachable!(),

@@ -11,7 +11,7 @@ use crate::pops::{
     pop_code, pop_expr, pop_field, pop_fields, pop_locals, pop_name, pop_number, pop_outcome,
     pop_params, pop_some_fields, pop_text, pop_type, pop_unit,
 };
-use crate::values::{Outcome, Product, Value};
+use crate::values::{Outcome, Product, SemanticValue};
 use c_read_grammar::ItemAction;
 use c_text::{CField, CFieldType, CItem, CList, CLocal, CParam, Linkage};
 use stacks::Stack;
@@ -19,13 +19,13 @@ use std::alloc::Global;
 use wf_text::NoMemory;
 
 /// A field of a type.
-pub(crate) fn make_field(values: &mut Stack<Value>) -> Product
+pub(crate) fn make_field(values: &mut Stack<SemanticValue>) -> Product
     requires { fits (shapes.Name ∷ shapes.Type ∷ []) values.old ≡ true }
     ensures { making (acts.Item does.MakeField) values.old ≡ record { product = result; vals = values.new } }
 {
     let name = pop_name(values);
     let kind = pop_type(values);
-    Product::Value(Value::Field(CField {
+    Product::Value(SemanticValue::Field(CField {
         kind: CFieldType::Plain(kind),
         name,
         count: None,
@@ -33,13 +33,13 @@ pub(crate) fn make_field(values: &mut Stack<Value>) -> Product
 }
 
 /// A field that is a struct.
-pub(crate) fn make_struct_field(values: &mut Stack<Value>) -> Product
+pub(crate) fn make_struct_field(values: &mut Stack<SemanticValue>) -> Product
     requires { fits (shapes.Name ∷ shapes.Name ∷ []) values.old ≡ true }
     ensures { making (acts.Item does.MakeStructField) values.old ≡ record { product = result; vals = values.new } }
 {
     let name = pop_name(values);
     let of = pop_name(values);
-    Product::Value(Value::Field(CField {
+    Product::Value(SemanticValue::Field(CField {
         kind: CFieldType::Struct(of),
         name,
         count: None,
@@ -47,13 +47,13 @@ pub(crate) fn make_struct_field(values: &mut Stack<Value>) -> Product
 }
 
 /// The count of a field.
-pub(crate) fn set_count(values: &mut Stack<Value>) -> Product
+pub(crate) fn set_count(values: &mut Stack<SemanticValue>) -> Product
     requires { fits (shapes.Number ∷ shapes.Field ∷ []) values.old ≡ true }
     ensures { making (acts.Item does.SetCount) values.old ≡ record { product = result; vals = values.new } }
 {
     let count = pop_number(values);
     let field = pop_field(values);
-    Product::Value(Value::Field(CField {
+    Product::Value(SemanticValue::Field(CField {
         kind: field.kind,
         name: field.name,
         count: Some(count),
@@ -61,7 +61,7 @@ pub(crate) fn set_count(values: &mut Stack<Value>) -> Product
 }
 
 /// One field more.
-pub(crate) fn add_field(values: &mut Stack<Value>) -> Result<Product, NoMemory>
+pub(crate) fn add_field(values: &mut Stack<SemanticValue>) -> Result<Product, NoMemory>
     requires { fits (shapes.Field ∷ shapes.Fields ∷ []) values.old ≡ true }
     ensures { IfOk result (λ product. making (acts.Item does.AddField) values.old ≡ record { product = product; vals = values.new }) }
 {
@@ -69,11 +69,11 @@ pub(crate) fn add_field(values: &mut Stack<Value>) -> Result<Product, NoMemory>
     let fields = pop_fields(values);
     let mut fields = fields;
     fields.push(field)?;
-    Ok(Product::Value(Value::Fields(fields)))
+    Ok(Product::Value(SemanticValue::Fields(fields)))
 }
 
 /// A struct.
-pub(crate) fn make_struct(values: &mut Stack<Value>) -> Product
+pub(crate) fn make_struct(values: &mut Stack<SemanticValue>) -> Product
     requires { fits (shapes.Name ∷ shapes.SomeFields ∷ shapes.Unit ∷ []) values.old ≡ true }
     ensures { making (acts.Item does.MakeStruct) values.old ≡ record { product = result; vals = values.new } }
 {
@@ -84,7 +84,7 @@ pub(crate) fn make_struct(values: &mut Stack<Value>) -> Product
 }
 
 /// A string object.
-pub(crate) fn make_text_item(values: &mut Stack<Value>) -> Product
+pub(crate) fn make_text_item(values: &mut Stack<SemanticValue>) -> Product
     requires { fits (shapes.Text ∷ shapes.Name ∷ shapes.Unit ∷ []) values.old ≡ true }
     ensures { making (acts.Item does.MakeTextItem) values.old ≡ record { product = result; vals = values.new } }
 {
@@ -95,19 +95,19 @@ pub(crate) fn make_text_item(values: &mut Stack<Value>) -> Product
 }
 
 /// What a function results in.
-pub(crate) fn make_result(linkage: Linkage, values: &mut Stack<Value>) -> Product
+pub(crate) fn make_result(linkage: Linkage, values: &mut Stack<SemanticValue>) -> Product
     requires { fits (shapes.Type ∷ []) values.old ≡ true }
     ensures { making (acts.Item (does.MakeResult linkage)) values.old ≡ record { product = result; vals = values.new } }
 {
     let kind = pop_type(values);
-    Product::Value(Value::Outcome(Outcome {
+    Product::Value(SemanticValue::Outcome(Outcome {
         linkage,
         of: Some(kind),
     }))
 }
 
 /// One parameter more.
-pub(crate) fn add_param(values: &mut Stack<Value>) -> Result<Product, NoMemory>
+pub(crate) fn add_param(values: &mut Stack<SemanticValue>) -> Result<Product, NoMemory>
     requires { fits (shapes.Name ∷ shapes.Type ∷ shapes.Params ∷ []) values.old ≡ true }
     ensures { IfOk result (λ product. making (acts.Item does.AddParam) values.old ≡ record { product = product; vals = values.new }) }
 {
@@ -116,11 +116,11 @@ pub(crate) fn add_param(values: &mut Stack<Value>) -> Result<Product, NoMemory>
     let params = pop_params(values);
     let mut params = params;
     params.push(CParam { kind, name })?;
-    Ok(Product::Value(Value::Params(params)))
+    Ok(Product::Value(SemanticValue::Params(params)))
 }
 
 /// One local more.
-pub(crate) fn add_local(values: &mut Stack<Value>) -> Result<Product, NoMemory>
+pub(crate) fn add_local(values: &mut Stack<SemanticValue>) -> Result<Product, NoMemory>
     requires { fits (shapes.Name ∷ shapes.Type ∷ shapes.Locals ∷ []) values.old ≡ true }
     ensures { IfOk result (λ product. making (acts.Item does.AddLocal) values.old ≡ record { product = product; vals = values.new }) }
 {
@@ -133,11 +133,11 @@ pub(crate) fn add_local(values: &mut Stack<Value>) -> Result<Product, NoMemory>
         name,
         initial: None,
     })?;
-    Ok(Product::Value(Value::Locals(locals)))
+    Ok(Product::Value(SemanticValue::Locals(locals)))
 }
 
 /// One local more, with its initial value.
-pub(crate) fn add_initial_local(values: &mut Stack<Value>) -> Result<Product, NoMemory>
+pub(crate) fn add_initial_local(values: &mut Stack<SemanticValue>) -> Result<Product, NoMemory>
     requires { fits (shapes.Expr ∷ shapes.Name ∷ shapes.Type ∷ shapes.Locals ∷ []) values.old ≡ true }
     ensures { IfOk result (λ product. making (acts.Item does.AddInitialLocal) values.old ≡ record { product = product; vals = values.new }) }
 {
@@ -151,11 +151,11 @@ pub(crate) fn add_initial_local(values: &mut Stack<Value>) -> Result<Product, No
         name,
         initial: Some(initial),
     })?;
-    Ok(Product::Value(Value::Locals(locals)))
+    Ok(Product::Value(SemanticValue::Locals(locals)))
 }
 
 /// A function.
-pub(crate) fn make_function(values: &mut Stack<Value>) -> Product
+pub(crate) fn make_function(values: &mut Stack<SemanticValue>) -> Product
     requires { fits (shapes.Code ∷ shapes.Locals ∷ shapes.Params ∷ shapes.Name ∷ shapes.Outcome ∷ shapes.Unit ∷ []) values.old ≡ true }
     ensures { making (acts.Item does.MakeFunction) values.old ≡ record { product = result; vals = values.new } }
 {
@@ -179,14 +179,14 @@ pub(crate) fn make_function(values: &mut Stack<Value>) -> Product
 pub(crate) fn make(
     alloc: Global,
     action: ItemAction,
-    values: &mut Stack<Value>,
+    values: &mut Stack<SemanticValue>,
 ) -> Result<Product, NoMemory>
     requires fit { fits (takes_item action) values.old ≡ true }
     requires plain { is_plain (acts.Item action) ≡ true }
     ensures { IfOk result (λ product. making (acts.Item action) values.old ≡ record { product = product; vals = values.new }) }
 {
     match action {
-        ItemAction::StartFields => Ok(Product::Value(Value::Fields(CList::new(alloc)))),
+        ItemAction::StartFields => Ok(Product::Value(SemanticValue::Fields(CList::new(alloc)))),
         ItemAction::MakeField => Ok(make_field(values)),
         ItemAction::MakeStructField => Ok(make_struct_field(values)),
         ItemAction::SetCount => Ok(set_count(values)),
@@ -194,13 +194,13 @@ pub(crate) fn make(
         ItemAction::MakeStruct => Ok(make_struct(values)),
         ItemAction::MakeTextItem => Ok(make_text_item(values)),
         ItemAction::MakeResult(linkage) => Ok(make_result(linkage, values)),
-        ItemAction::MakeVoid(linkage) => Ok(Product::Value(Value::Outcome(Outcome {
+        ItemAction::MakeVoid(linkage) => Ok(Product::Value(SemanticValue::Outcome(Outcome {
             linkage,
             of: None,
         }))),
-        ItemAction::StartParams => Ok(Product::Value(Value::Params(CList::new(alloc)))),
+        ItemAction::StartParams => Ok(Product::Value(SemanticValue::Params(CList::new(alloc)))),
         ItemAction::AddParam => add_param(values),
-        ItemAction::StartLocals => Ok(Product::Value(Value::Locals(CList::new(alloc)))),
+        ItemAction::StartLocals => Ok(Product::Value(SemanticValue::Locals(CList::new(alloc)))),
         ItemAction::AddLocal => add_local(values),
         ItemAction::AddInitialLocal => add_initial_local(values),
         ItemAction::MakeFunction => Ok(make_function(values)),

@@ -11,7 +11,7 @@ ghost use Rattle.c_read_nodes.specs.Shapes.{is_plain};
 use crate::conditions::meets;
 use crate::making::make;
 use crate::shapes::{is_plain, takes};
-use crate::values::{Product, Value};
+use crate::values::{Product, SemanticValue};
 use c_read_grammar::{Action, ExprAction, StmtAction};
 use c_text::{CExpr, CItem, Unit};
 use stacks::{Stack, fits};
@@ -23,7 +23,7 @@ use wf_text::NoMemory;
 pub struct Maker {
     pub alloc: Global,
     pub unit: Unit,
-    pub values: Stack<Value>,
+    pub values: Stack<SemanticValue>,
 }
 
 impl Maker {
@@ -37,7 +37,7 @@ impl Maker {
     {
         self.unit.is_sound();
         let e = self.unit.add_expr(x)?;
-        self.values.push(Value::Expr(e))
+        self.values.push(SemanticValue::Expr(e))
     }
 
     /// Adds an item to the unit, and puts the unit back on the stack.
@@ -48,7 +48,7 @@ impl Maker {
         ensures fit { OnOk result (IsFit self.new) }
     {
         let _item = self.unit.add_item(x)?;
-        self.values.push(Value::Unit)
+        self.values.push(SemanticValue::Unit)
     }
 
     /// Puts what was made into the unit, and on the stack what stands for it.

@@ -4,7 +4,7 @@ ghost use Rattle.std.specs.Prelude.{◌≡◌, true, IfOk};
 ghost use Rattle.c_read_nodes.specs.Making.{making};
 ghost use Rattle.c_read_nodes.specs.Shapes.{fits, takes, is_plain};
 
-use crate::values::{Product, Value};
+use crate::values::{Product, SemanticValue};
 use crate::{make_exprs, make_items, make_stmts, make_types};
 use c_read_grammar::Action;
 use stacks::Stack;
@@ -15,7 +15,7 @@ use wf_text::NoMemory;
 pub(crate) fn make(
     alloc: Global,
     action: Action,
-    values: &mut Stack<Value>,
+    values: &mut Stack<SemanticValue>,
 ) -> Result<Product, NoMemory>
     requires fit { fits (takes action) values.old ≡ true }
     requires plain { is_plain action ≡ true }

@@ -3,7 +3,7 @@
 ghost use Rattle.std.specs.Prelude.{◌≡◌};
 ghost use Rattle.c_read_nodes.specs.Shapes.{is_shape, takes_expr, takes_type, takes_stmt, takes_item, takes, is_plain};
 
-use crate::values::Value;
+use crate::values::SemanticValue;
 use c_read_grammar::{Action, ExprAction, ItemAction, StmtAction, TypeAction};
 use c_text::CType;
 use stacks::ShapeOf;
@@ -32,30 +32,30 @@ pub(crate) enum Shape {
     Unit,
 }
 
-impl ShapeOf<Value> for Shape {
+impl ShapeOf<SemanticValue> for Shape {
     ghost is_shape = { is_shape };
 
-    fn is_of(self, value: &Value) -> bool {
+    fn is_of(self, value: &SemanticValue) -> bool {
         match (self, value) {
-            (Shape::Name, Value::Name(_)) => true,
-            (Shape::Number, Value::Number(_)) => true,
-            (Shape::Text, Value::Text(_)) => true,
-            (Shape::Expr, Value::Expr(_)) => true,
-            (Shape::Operation, Value::Operation(_)) => true,
-            (Shape::Args, Value::Args(_)) => true,
-            (Shape::Type, Value::Type(_)) => true,
-            (Shape::UintType, Value::Type(CType::Uint(_))) => true,
-            (Shape::Block, Value::Block) => true,
-            (Shape::Code, Value::Code(_)) => true,
-            (Shape::Statement, Value::Statement(_)) => true,
-            (Shape::Arm, Value::Arm(_)) => true,
-            (Shape::Field, Value::Field(_)) => true,
-            (Shape::Fields, Value::Fields(_)) => true,
-            (Shape::SomeFields, Value::Fields(fields)) => !fields.as_slice().is_empty(),
-            (Shape::Outcome, Value::Outcome(_)) => true,
-            (Shape::Params, Value::Params(_)) => true,
-            (Shape::Locals, Value::Locals(_)) => true,
-            (Shape::Unit, Value::Unit) => true,
+            (Shape::Name, SemanticValue::Name(_)) => true,
+            (Shape::Number, SemanticValue::Number(_)) => true,
+            (Shape::Text, SemanticValue::Text(_)) => true,
+            (Shape::Expr, SemanticValue::Expr(_)) => true,
+            (Shape::Operation, SemanticValue::Operation(_)) => true,
+            (Shape::Args, SemanticValue::Args(_)) => true,
+            (Shape::Type, SemanticValue::Type(_)) => true,
+            (Shape::UintType, SemanticValue::Type(CType::Uint(_))) => true,
+            (Shape::Block, SemanticValue::Block) => true,
+            (Shape::Code, SemanticValue::Code(_)) => true,
+            (Shape::Statement, SemanticValue::Statement(_)) => true,
+            (Shape::Arm, SemanticValue::Arm(_)) => true,
+            (Shape::Field, SemanticValue::Field(_)) => true,
+            (Shape::Fields, SemanticValue::Fields(_)) => true,
+            (Shape::SomeFields, SemanticValue::Fields(fields)) => !fields.as_slice().is_empty(),
+            (Shape::Outcome, SemanticValue::Outcome(_)) => true,
+            (Shape::Params, SemanticValue::Params(_)) => true,
+            (Shape::Locals, SemanticValue::Locals(_)) => true,
+            (Shape::Unit, SemanticValue::Unit) => true,
             _ => false,
         }
     }

@@ -31,7 +31,7 @@ pub struct Outcome {
 
 /// What a part of the grammar means, or what of it is read so far. Lists are in the order of the text.
 #[derive(Drop)]
-pub enum Value {
+pub enum SemanticValue {
     /// A name.
     Name(CNameId),
     /// A literal.
@@ -71,7 +71,7 @@ pub enum Value {
 /// What an action makes: a value, an expression of the unit, or an item of it.
 #[derive(Drop)]
 pub(crate) enum Product {
-    Value(Value),
+    Value(SemanticValue),
     Expr(CExpr),
     Item(CItem),
 }

@@ -1,5 +1,5 @@
 -- The token before bytes.
-use Rattle.std.proofs.Common.{◌≡◌, ◌<◌, ℕ, zero, suc, Bool, true, false, ◌&&◌, ◌||◌, not, nat_eq, if◌then◌else◌, Option, None, Some, List, [], ◌∷◌, ◌++◌, length, take, drop, get_or, take-append-drop, refl, sym, ◌∙◌, ap, subst, arith}
+use Rattle.std.proofs.Common.{◌≡◌, ◌<◌, ℕ, zero, suc, Bool, true, false, ◌&&◌, ◌||◌, not, nat_eq, if◌then◌else◌, Option, None, Some, List, [], ◌∷◌, ◌++◌, length, take, drop, take-append-drop, refl, sym, ◌∙◌, ap, subst, arith}
 use Rattle.std.specs.List.{list_all}
 use Rattle.std.specs.Option.{option_map}
 use Rattle.std.proofs.lemmas.Bool.{eqb-true}
@@ -11,6 +11,7 @@ use Rattle.c_read_tokens.specs.declared.symbols.Symbol.{Symbol}
 use Rattle.c_read_tokens.specs.Kinds.{token_of}
 use Rattle.c_read_tokens.specs.Lexing.{token_in, is_quote, double_from, NoToken, StandsSomehow}
 use Rattle.c_read_tokens.specs.Symbols.{symbol_token_of}
+use Rattle.c_read_tokens.specs.WordLists.{first_byte}
 
 first_kept : (test : ℕ → Bool) (n : ℕ) (bytes : List ℕ) → begins test bytes ≡ true → begins test (drop n bytes) ≡ false → begins test (take n bytes) ≡ true
 first_kept test n [] b w = absurd (cc b)
@@ -109,9 +110,9 @@ module _ (bytes inner text behind : List ℕ) (n : ℕ) (b : begins is_quote byt
       let more : has_double_question text ≡ true = sym (double_seen text) ∙ sym found ∙ two in
       absent w (ap (λ x. if x && not (has_double_question text) then Some (quoted text) else None) (sym is ∙ closed) ∙ ap (λ x. if true && not x then Some (quoted text) else None) more)
 
-pub first_is : (bytes : List ℕ) → 0 < length bytes → bytes ≡ get_or bytes 0 0 ∷ drop 1 bytes
-first_is [] h = absurd (omega (arith, h))
-first_is (b ∷ bs) h = refl
+pub first_is : (bytes : List ℕ) → 0 < length bytes → (b : ℕ) → b ≡ first_byte bytes → bytes ≡ b ∷ drop 1 bytes
+first_is [] h b is = absurd (omega (arith, h))
+first_is (x ∷ bs) h b is = ap (λ y. y ∷ bs) (sym is)
 
 pub symbol_there : (bytes others : List ℕ) (b : ℕ) (o : Option Symbol) (s : Symbol) → bytes ≡ b ∷ drop 1 bytes → others ≡ drop 1 bytes → option_map symbol_token_of o ≡ symbol_token b others → o ≡ Some s → StandsSomehow (symbol_token_of s) bytes
 symbol_there bytes others b o s cut rest is some = symbol_stands bytes b others o s (cut ∙ ap (λ x. b ∷ x) (sym rest)) is some

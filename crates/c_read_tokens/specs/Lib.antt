@@ -2,5 +2,5 @@ pub mod Headers
 pub mod Kinds
 pub mod Lexing
 pub mod Numbers
-pub mod ReservedWords
 pub mod Symbols
+pub mod WordLists

@@ -1,6 +1,6 @@
 // The first token of bytes.
 
-ghost use Rattle.std.specs.Prelude.{◌≡◌, ◌<◌, ◌∷◌, true, false, length, drop, IfSome, IfNone};
+ghost use Rattle.std.specs.Prelude.{◌≡◌, ◌<◌, true, false, length, IfSome, IfNone};
 ghost use Rattle.c_text.specs.CSpelling.{is_word_byte};
 ghost use Rattle.c_read_grammar.specs.FirstToken.{Stands, begins, run_token, word_token};
 ghost use Rattle.c_read_tokens.specs.Kinds.{token_of};
@@ -9,7 +9,7 @@ ghost use Rattle.c_read_tokens.specs.Symbols.{symbol_token_of};
 
 use crate::kinds::Kind;
 use crate::numbers::literal_of;
-use crate::runs::{is_digit, is_word_byte, string_len, word_len};
+use crate::runs::{first_byte, is_digit, is_word_byte, string_len, word_len};
 use crate::symbols::{Symbol, symbol_of};
 use crate::words::{is_reserved, word_of};
 
@@ -121,14 +121,6 @@ fn symbol_in_front(symbol: Symbol, bytes: &[u8]) -> Option<Piece<'_>>
         text: &[],
         rest,
     })
-}
-
-/// The first byte.
-fn first_byte(bytes: &[u8]) -> u8
-    requires { 0 < length bytes.now }
-    ensures { bytes.now ≡ result ∷ drop 1 bytes.now }
-{
-    bytes[0]
 }
 
 /// A symbol at the front, if there is one.

@@ -4,6 +4,7 @@ ghost use Rattle.std.specs.Prelude.{◌≡◌, ◌≤◌, length, take, drop, tr
 ghost use Rattle.std.specs.List.{list_all};
 ghost use Rattle.c_text.specs.CSpelling.{begins_name, is_word_byte, is_string_byte, is_gap_byte, is_between};
 ghost use Rattle.c_read_grammar.specs.FirstToken.{begins};
+ghost use Rattle.c_read_tokens.specs.WordLists.{first_byte};
 
 /// A letter or `_`.
 pub(crate) fn begins_name(byte: u8) -> bool
@@ -38,6 +39,16 @@ fn is_gap_byte(byte: u8) -> bool
     ensures { result ≡ is_gap_byte byte }
 {
     byte == b' ' || byte == b'\n'
+}
+
+/// The first byte; 0 where there is none.
+pub(crate) fn first_byte(bytes: &[u8]) -> u8
+    ensures { result ≡ first_byte bytes.now }
+{
+    match bytes.first() {
+        Some(byte) => *byte,
+        None => 0,
+    }
 }
 
 /// How many bytes of a word stand at the front.

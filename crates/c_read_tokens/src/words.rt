@@ -4,35 +4,10 @@ ghost use Rattle.std.specs.Prelude.{◌≡◌, nat_eq, find};
 ghost use Rattle.std.specs.Cmp.Lexicographic.{pointwise};
 ghost use Rattle.c_text.specs.CSpelling.{word_bytes, is_reserved};
 ghost use Rattle.c_read_grammar.specs.FirstToken.{word_of};
-ghost use Rattle.c_read_tokens.specs.ReservedWords.{reserved_bytes};
+ghost use Rattle.c_read_tokens.specs.WordLists.{first_byte, words_from, reserved_bytes, reserved_from};
 
+use crate::runs::first_byte;
 use c_text::CWord;
-
-/// Every word of the subset, once.
-const WORDS: [CWord; 22] = [
-    CWord::Typedef,
-    CWord::Struct,
-    CWord::Static,
-    CWord::Inline,
-    CWord::Const,
-    CWord::Char,
-    CWord::Void,
-    CWord::Uint8,
-    CWord::Uint16,
-    CWord::Uint32,
-    CWord::Uint64,
-    CWord::SizeT,
-    CWord::Bool,
-    CWord::Goto,
-    CWord::If,
-    CWord::Else,
-    CWord::While,
-    CWord::Switch,
-    CWord::Return,
-    CWord::Case,
-    CWord::Default,
-    CWord::Sizeof,
-];
 
 /// How a word is written.
 fn text_of_word(word: CWord) -> &'static str
@@ -64,11 +39,38 @@ fn text_of_word(word: CWord) -> &'static str
     }
 }
 
-/// The first word of the table that is written so.
-fn find_word(text: &[u8]) -> Option<CWord>
-    ensures { result ≡ find (λ word. pointwise nat_eq text.now (word_bytes word)) WORDS }
+/// The words of the subset that begin with this byte.
+fn words_from(byte: u8) -> &'static [CWord]
+    ensures { result.now ≡ words_from byte }
 {
-    WORDS
+    match byte {
+        b'_' => &[CWord::Bool],
+        b'c' => &[CWord::Case, CWord::Char, CWord::Const],
+        b'd' => &[CWord::Default],
+        b'e' => &[CWord::Else],
+        b'g' => &[CWord::Goto],
+        b'i' => &[CWord::If, CWord::Inline],
+        b'r' => &[CWord::Return],
+        b's' => &[
+            CWord::Sizeof,
+            CWord::SizeT,
+            CWord::Static,
+            CWord::Struct,
+            CWord::Switch,
+        ],
+        b't' => &[CWord::Typedef],
+        b'u' => &[CWord::Uint8, CWord::Uint16, CWord::Uint32, CWord::Uint64],
+        b'v' => &[CWord::Void],
+        b'w' => &[CWord::While],
+        _ => &[],
+    }
+}
+
+/// The word that is written so, looked for among those that begin with the first byte.
+fn find_word(text: &[u8]) -> Option<CWord>
+    ensures { result ≡ find (λ word. pointwise nat_eq text.now (word_bytes word)) (words_from (first_byte text.now)) }
+{
+    words_from(first_byte(text))
         .iter()
         .copied()
         .find(|word| text == text_of_word(*word).as_bytes())
@@ -128,52 +130,6 @@ pub(crate) enum Reserved {
     SizeT,
 }
 
-/// Each of them, once.
-const RESERVED: [Reserved; 42] = [
-    Reserved::Auto,
-    Reserved::Break,
-    Reserved::Case,
-    Reserved::Char,
-    Reserved::Const,
-    Reserved::Continue,
-    Reserved::Default,
-    Reserved::Do,
-    Reserved::Double,
-    Reserved::Else,
-    Reserved::Enum,
-    Reserved::Extern,
-    Reserved::Float,
-    Reserved::For,
-    Reserved::Goto,
-    Reserved::If,
-    Reserved::Inline,
-    Reserved::Int,
-    Reserved::Long,
-    Reserved::Register,
-    Reserved::Restrict,
-    Reserved::Return,
-    Reserved::Short,
-    Reserved::Signed,
-    Reserved::Sizeof,
-    Reserved::Static,
-    Reserved::Struct,
-    Reserved::Switch,
-    Reserved::Typedef,
-    Reserved::Union,
-    Reserved::Unsigned,
-    Reserved::Void,
-    Reserved::Volatile,
-    Reserved::While,
-    Reserved::Bool,
-    Reserved::Complex,
-    Reserved::Imaginary,
-    Reserved::Uint8,
-    Reserved::Uint16,
-    Reserved::Uint32,
-    Reserved::Uint64,
-    Reserved::SizeT,
-];
-
 /// How such a word is written.
 fn text_of_reserved(word: Reserved) -> &'static str
     ensures { result.now ≡ reserved_bytes word }
@@ -224,11 +180,56 @@ fn text_of_reserved(word: Reserved) -> &'static str
     }
 }
 
-/// The first word of the table that is written so.
-fn find_reserved(text: &[u8]) -> Option<Reserved>
-    ensures { result ≡ find (λ word. pointwise nat_eq text.now (reserved_bytes word)) RESERVED }
+/// Those that begin with this byte.
+fn reserved_from(byte: u8) -> &'static [Reserved]
+    ensures { result.now ≡ reserved_from byte }
 {
-    RESERVED
+    match byte {
+        b'_' => &[Reserved::Bool, Reserved::Complex, Reserved::Imaginary],
+        b'a' => &[Reserved::Auto],
+        b'b' => &[Reserved::Break],
+        b'c' => &[
+            Reserved::Case,
+            Reserved::Char,
+            Reserved::Const,
+            Reserved::Continue,
+        ],
+        b'd' => &[Reserved::Default, Reserved::Do, Reserved::Double],
+        b'e' => &[Reserved::Else, Reserved::Enum, Reserved::Extern],
+        b'f' => &[Reserved::Float, Reserved::For],
+        b'g' => &[Reserved::Goto],
+        b'i' => &[Reserved::If, Reserved::Inline, Reserved::Int],
+        b'l' => &[Reserved::Long],
+        b'r' => &[Reserved::Register, Reserved::Restrict, Reserved::Return],
+        b's' => &[
+            Reserved::Short,
+            Reserved::Signed,
+            Reserved::Sizeof,
+            Reserved::SizeT,
+            Reserved::Static,
+            Reserved::Struct,
+            Reserved::Switch,
+        ],
+        b't' => &[Reserved::Typedef],
+        b'u' => &[
+            Reserved::Uint8,
+            Reserved::Uint16,
+            Reserved::Uint32,
+            Reserved::Uint64,
+            Reserved::Union,
+            Reserved::Unsigned,
+        ],
+        b'v' => &[Reserved::Void, Reserved::Volatile],
+        b'w' => &[Reserved::While],
+        _ => &[],
+    }
+}
+
+/// The one that is written so, looked for among those that begin with the first byte.
+fn find_reserved(text: &[u8]) -> Option<Reserved>
+    ensures { result ≡ find (λ word. pointwise nat_eq text.now (reserved_bytes word)) (reserved_from (first_byte text.now)) }
+{
+    reserved_from(first_byte(text))
         .iter()
         .copied()
         .find(|word| text == text_of_reserved(*word).as_bytes())
@@ -238,8 +239,5 @@ fn find_reserved(text: &[u8]) -> Option<Reserved>
 pub(crate) fn is_reserved(text: &[u8]) -> bool
     ensures { result ≡ is_reserved text.now }
 {
-    match find_reserved(text) {
-        Some(_) => true,
-        None => false,
-    }
+    find_reserved(text).is_some()
 }

@@ -10,7 +10,7 @@ use Rattle.wf_bufs.specs.declared.outcomes.Reply.TheVariants.{Done, Turns, Undef
 use Rattle.wf_bufs.specs.declared.calls.ReceiverDecl.{ReceiverDecl}
 use Rattle.wf_bufs.specs.SurfaceViews.{receiver_of, answer_kind_of}
 use Rattle.wf_bufs.specs.EngineLaw.{Replies, DoneFits, FitsCalled, SameSizes, KeepsSizes}
-use Rattle.c_meaning.specs.declared.values.Value.{Value}
+use Rattle.c_meaning.specs.declared.values.CValue.{CValue}
 use Rattle.c_meaning.specs.CMemory.{Memory}
 use Rattle.c_meaning.specs.CTypes.{Function}
 use Rattle.c_meaning.specs.CCall.{Program}
@@ -93,48 +93,48 @@ most_struct (x ∷ ss) k s e = by (most_struct ss k s) (nat_eq x.number k) e
 module _ (k : Known) (what : HostCall) (turns : ℕ) (c : Called) (calls : Calls k what turns c) where
   pub comes_to_call : (m : Memory) (host : Host) (n : ℕ) → c_call (loaded_of k) m what host n ≡ call_of (loaded_of k) m calls.means.of calls.means.method what host n c.receiver
   comes_to_call m host n =
-      ap (λ (o : Option PublicStruct). defined (option_and_then (λ s. option_and_then (λ method. option_map (call_of (loaded_of k) m s method what host n) (slice_get (loaded_of k).pointers what.receiver)) (called_method k.surface (map receiver_of k.receivers.items) what)) o)) calls.means.struct_is
+      ap (λ (o : Option PublicStruct). defined (option_and_then (λ s. option_and_then (λ method. option_map (call_of (loaded_of k) m s method what host n) (slice_get (loaded_of k).pointers what.receiver)) (called_method k.surface.value (map receiver_of k.receivers.items) what)) o)) calls.means.struct_is
       ∙ (ap (λ (o : Option PublicMethod). defined (option_and_then (λ method. option_map (call_of (loaded_of k) m calls.means.of method what host n) (slice_get (loaded_of k).pointers what.receiver)) o)) calls.means.method_is
-      ∙ ap (λ (o : Option Value). defined (option_map (call_of (loaded_of k) m calls.means.of calls.means.method what host n) o)) calls.pointer)
+      ∙ ap (λ (o : Option CValue). defined (option_map (call_of (loaded_of k) m calls.means.of calls.means.method what host n) o)) calls.pointer)
 
-  method_fits : (buffers arrays : ℕ) → CanCall k.surface (map receiver_of k.receivers.items) buffers arrays what → FitKinds buffers arrays calls.means.method.args what.args
+  method_fits : (buffers arrays : ℕ) → CanCall k.surface.value (map receiver_of k.receivers.items) buffers arrays what → FitKinds buffers arrays calls.means.method.args what.args
   method_fits buffers arrays can = subst (λ (o : Option PublicMethod). IsSomeAnd o (λ method. FitKinds buffers arrays method.args what.args)) calls.means.method_is can.fit
 
-  pub args_there : (buffers arrays : ℕ) → CanCall k.surface (map receiver_of k.receivers.items) buffers arrays what → AreThere buffers arrays what.args
+  pub args_there : (buffers arrays : ℕ) → CanCall k.surface.value (map receiver_of k.receivers.items) buffers arrays what → AreThere buffers arrays what.args
   args_there buffers arrays can = kinds_there buffers arrays calls.means.method.args what.args (method_fits buffers arrays can)
 
-  pub args_few : (buffers arrays : ℕ) → CanCall k.surface (map receiver_of k.receivers.items) buffers arrays what → length what.args ≤ most_args k.surface.structs
+  pub args_few : (buffers arrays : ℕ) → CanCall k.surface.value (map receiver_of k.receivers.items) buffers arrays what → length what.args ≤ most_args k.surface.value.structs
   args_few buffers arrays can =
       let a = kinds_length buffers arrays calls.means.method.args what.args (method_fits buffers arrays can) in
       let b = most_method calls.means.of.methods what.method calls.means.method calls.means.its_method in
-      let d = most_struct k.surface.structs calls.means.structure calls.means.of calls.means.numbered in
+      let d = most_struct k.surface.value.structs calls.means.structure calls.means.of calls.means.numbered in
       omega (arith, a, b, d)
 
-  pub own_number : function_number (loaded_of k).program.functions (function_name k.surface calls.means.of calls.means.method.name) ≡ Some c.own
+  pub own_number : function_number (loaded_of k).program.functions (function_name k.surface.value calls.means.of calls.means.method.name) ≡ Some c.own
   own_number = sym calls.means.is.function ∙ calls.function
 
   pub own_kind : answer_kind_of c.kind ≡ calls.means.method.answers
   own_kind = ap answer_kind_of calls.kind ∙ calls.means.is.kind
 
   pub own_below : IsKnown k → c.own < length k.code.functions
-  own_below known = let a = number_below (loaded_of k).program.functions (function_name k.surface calls.means.of calls.means.method.name) c.own own_number in omega (arith, a, known.functions)
+  own_below known = let a = number_below (loaded_of k).program.functions (function_name k.surface.value calls.means.of calls.means.method.name) c.own own_number in omega (arith, a, known.functions)
 
-  pub call_is_fit : IsKnown k → (m : Memory) (host : Host) (reply : Reply) (after : Memory × Host) → Replies (given k.surface (λ (x : Memory × Host). x) (c_call (loaded_of k) m what host turns)) reply after
-      → FitsCalled k.surface (map receiver_of k.receivers.items) what reply
+  pub call_is_fit : IsKnown k → (m : Memory) (host : Host) (reply : Reply) (after : Memory × Host) → Replies (given k.surface.value (λ (x : Memory × Host). x) (c_call (loaded_of k) m what host turns)) reply after
+      → FitsCalled k.surface.value (map receiver_of k.receivers.items) what reply
   call_is_fit known m host reply after h =
-      subst (λ (o : Option PublicMethod). IsSomeAnd o (λ method. DoneFits k.surface method.answers reply)) (sym calls.means.method_is) (by reply h)
+      subst (λ (o : Option PublicMethod). IsSomeAnd o (λ method. DoneFits k.surface.value method.answers reply)) (sym calls.means.method_is) (by reply h)
     where
-      by : (reply : Reply) → Replies (given k.surface (λ (x : Memory × Host). x) (c_call (loaded_of k) m what host turns)) reply after → DoneFits k.surface calls.means.method.answers reply
+      by : (reply : Reply) → Replies (given k.surface.value (λ (x : Memory × Host). x) (c_call (loaded_of k) m what host turns)) reply after → DoneFits k.surface.value calls.means.method.answers reply
       by (Done outcome) h =
           call_fits (unit_tree k.unit) (loaded_of k) known.form refl known.ok m calls.means.structure what.method calls.means.of calls.means.method c.kind what host turns c.receiver outcome after calls.means.numbered calls.means.its_method own_kind
-          (sym (ap (given k.surface (λ (x : Memory × Host). x)) (comes_to_call m host turns)) ∙ h)
+          (sym (ap (given k.surface.value (λ (x : Memory × Host). x)) (comes_to_call m host turns)) ∙ h)
       by Turns h = tt
       by Undefined h = tt
 
 pub within_turns : (k : Known) (what : HostCall) (turns : ℕ) (c : Called) (calls : Calls k what turns c) (m : Memory) (host : Host) (reply : Reply) (after : Memory × Host)
-    → Replies (given k.surface (λ (x : Memory × Host). x) (call_of (loaded_of k) m calls.means.of calls.means.method what host c.turns c.receiver)) reply after → Replies (given k.surface (λ (x : Memory × Host). x) (c_call (loaded_of k) m what host turns)) reply after
+    → Replies (given k.surface.value (λ (x : Memory × Host). x) (call_of (loaded_of k) m calls.means.of calls.means.method what host c.turns c.receiver)) reply after → Replies (given k.surface.value (λ (x : Memory × Host). x) (c_call (loaded_of k) m what host turns)) reply after
 within_turns k what turns c calls m host reply after h =
-    replies_so k.surface (c_call (loaded_of k) m what host turns) (call_of (loaded_of k) m calls.means.of calls.means.method what host c.turns c.receiver) reply after
+    replies_so k.surface.value (c_call (loaded_of k) m what host turns) (call_of (loaded_of k) m calls.means.of calls.means.method what host c.turns c.receiver) reply after
     (comes_to_call k what turns c calls m host turns ∙ ap (λ (n : ℕ). call_of (loaded_of k) m calls.means.of calls.means.method what host n c.receiver) (sym calls.within)) h
 
 pub sizes_kept : (reply : Reply) (old new : Host) → OnDone reply (SameSizes old new) → KeepsSizes reply old new
@@ -142,36 +142,36 @@ sizes_kept (Done outcome) old new h = h
 sizes_kept Turns old new h = tt
 sizes_kept Undefined old new h = tt
 
-pub undefined_fits : (k : Known) (what : HostCall) (buffers arrays : ℕ) → CanCall k.surface (map receiver_of k.receivers.items) buffers arrays what → FitsCalled k.surface (map receiver_of k.receivers.items) what Undefined
-undefined_fits k what buffers arrays can = by (called_method k.surface (map receiver_of k.receivers.items) what) can.fit
+pub undefined_fits : (k : Known) (what : HostCall) (buffers arrays : ℕ) → CanCall k.surface.value (map receiver_of k.receivers.items) buffers arrays what → FitsCalled k.surface.value (map receiver_of k.receivers.items) what Undefined
+undefined_fits k what buffers arrays can = by (called_method k.surface.value (map receiver_of k.receivers.items) what) can.fit
   where
-    by : (o : Option PublicMethod) → IsSomeAnd o (λ method. FitKinds buffers arrays method.args what.args) → IsSomeAnd o (λ method. DoneFits k.surface method.answers Undefined)
+    by : (o : Option PublicMethod) → IsSomeAnd o (λ method. FitKinds buffers arrays method.args what.args) → IsSomeAnd o (λ method. DoneFits k.surface.value method.answers Undefined)
     by None h = absurd h
     by (Some m) h = tt
 
-pub receiver_below : (k : Known) (what : HostCall) (buffers arrays : ℕ) → CanCall k.surface (map receiver_of k.receivers.items) buffers arrays what → what.receiver < length k.receivers.items
+pub receiver_below : (k : Known) (what : HostCall) (buffers arrays : ℕ) → CanCall k.surface.value (map receiver_of k.receivers.items) buffers arrays what → what.receiver < length k.receivers.items
 receiver_below k what buffers arrays can = by k.receivers.items what.receiver can.fit
   where
-    by : (rs : List ReceiverDecl) (n : ℕ) → IsSomeAnd (option_and_then (method_of k.surface what.method) (slice_get (map receiver_of rs) n)) (λ method. FitKinds buffers arrays method.args what.args) → n < length rs
+    by : (rs : List ReceiverDecl) (n : ℕ) → IsSomeAnd (option_and_then (method_of k.surface.value what.method) (slice_get (map receiver_of rs) n)) (λ method. FitKinds buffers arrays method.args what.args) → n < length rs
     by [] n h = absurd h
     by (r ∷ rs) zero h = omega arith
     by (r ∷ rs) (suc n) h = let l = by rs n h in omega (arith, l)
 
 -- An init of a receiver.
 module _ (k : Known) (receiver : ℕ) (function : Option ℕ) (inited : IsInited k receiver function) where
-  pub comes_to_init : (v : Value) → slice_get (loaded_of k).pointers receiver ≡ Some v → (m : Memory) (n : ℕ) → c_init (loaded_of k) m receiver n ≡ init_of (loaded_of k) m inited.of v n
+  pub comes_to_init : (v : CValue) → slice_get (loaded_of k).pointers receiver ≡ Some v → (m : Memory) (n : ℕ) → c_init (loaded_of k) m receiver n ≡ init_of (loaded_of k) m inited.of v n
   comes_to_init v is m n =
       ap (λ (o : Option PublicStruct). defined (option_and_then (λ s. option_map (λ receiver. init_of (loaded_of k) m s receiver n) (slice_get (loaded_of k).pointers receiver)) o)) inited.struct_is
-      ∙ ap (λ (o : Option Value). defined (option_map (λ receiver. init_of (loaded_of k) m inited.of receiver n) o)) is
+      ∙ ap (λ (o : Option CValue). defined (option_map (λ receiver. init_of (loaded_of k) m inited.of receiver n) o)) is
 
   pub init_below : IsKnown k → IfSome function (λ own. own < length k.code.functions)
   init_below known = by function inited.function_is
     where
-      by : (o : Option ℕ) → o ≡ function_number (loaded_of k).program.functions (initialize_name k.surface inited.of) → IfSome o (λ own. own < length k.code.functions)
+      by : (o : Option ℕ) → o ≡ function_number (loaded_of k).program.functions (initialize_name k.surface.value inited.of) → IfSome o (λ own. own < length k.code.functions)
       by None e = tt
-      by (Some own) e = let a = number_below (loaded_of k).program.functions (initialize_name k.surface inited.of) own (sym e) in omega (arith, a, known.functions)
+      by (Some own) e = let a = number_below (loaded_of k).program.functions (initialize_name k.surface.value inited.of) own (sym e) in omega (arith, a, known.functions)
 
-pub init_is_fit : (k : Known) → IsKnown k → (m : Memory) (s : PublicStruct) (v : Value) (n : ℕ) (reply : Reply) (after : Memory) → Replies (given k.surface (λ (x : Memory). x) (init_of (loaded_of k) m s v n)) reply after → DoneFits k.surface status reply
+pub init_is_fit : (k : Known) → IsKnown k → (m : Memory) (s : PublicStruct) (v : CValue) (n : ℕ) (reply : Reply) (after : Memory) → Replies (given k.surface.value (λ (x : Memory). x) (init_of (loaded_of k) m s v n)) reply after → DoneFits k.surface.value status reply
 init_is_fit k known m s v n (Done outcome) after h = init_fits (unit_tree k.unit) (loaded_of k) known.form refl known.ok m s n v outcome after h
 init_is_fit k known m s v n Turns after h = tt
 init_is_fit k known m s v n Undefined after h = tt
@@ -193,13 +193,13 @@ method_there s j (x ∷ rs) zero r e = let t : x ≡ r = cc (e) in ap (λ (y : R
 method_there s j (x ∷ rs) (suc n) r e = method_there s j rs n r e
 
 module _ (k : Known) (what : HostCall) (r : ReceiverDecl) (is : slice_get k.receivers.items what.receiver ≡ Some r) where
-  pub entry_found : (e : StructEntry) (m : Option MethodEntry) → FoundAlike (IsStruct (loaded_of k).program k.surface) (struct_numbered k.surface r.of.0) (Some e)
-      → ((of : PublicStruct) → IsStruct (loaded_of k).program k.surface of e → FoundAlike (IsMethod (loaded_of k).program k.surface of) (method_numbered what.method of) m) → HasEntry k what m
-  entry_found e m f h = by (struct_numbered k.surface r.of.0) refl f
+  pub entry_found : (e : StructEntry) (m : Option MethodEntry) → FoundAlike (IsStruct (loaded_of k).program k.surface.value) (struct_numbered k.surface.value r.of.0) (Some e)
+      → ((of : PublicStruct) → IsStruct (loaded_of k).program k.surface.value of e → FoundAlike (IsMethod (loaded_of k).program k.surface.value of) (method_numbered what.method of) m) → HasEntry k what m
+  entry_found e m f h = by (struct_numbered k.surface.value r.of.0) refl f
     where
-      by_method : (of : PublicStruct) → struct_numbered k.surface r.of.0 ≡ Some of → (o : Option PublicMethod) → method_numbered what.method of ≡ o → (m : Option MethodEntry) → FoundAlike (IsMethod (loaded_of k).program k.surface of) o m → HasEntry k what m
+      by_method : (of : PublicStruct) → struct_numbered k.surface.value r.of.0 ≡ Some of → (o : Option PublicMethod) → method_numbered what.method of ≡ o → (m : Option MethodEntry) → FoundAlike (IsMethod (loaded_of k).program k.surface.value of) o m → HasEntry k what m
       by_method of i None j (Some y) g = absurd g
-      by_method of i None j None g = method_there k.surface what.method k.receivers.items what.receiver r is ∙ (ap (option_and_then (method_numbered what.method)) i ∙ j)
+      by_method of i None j None g = method_there k.surface.value what.method k.receivers.items what.receiver r is ∙ (ap (option_and_then (method_numbered what.method)) i ∙ j)
       by_method of i (Some x) j None g = absurd g
       by_method of i (Some x) j (Some y) g = record {
         structure = r.of.0;
@@ -207,20 +207,20 @@ module _ (k : Known) (what : HostCall) (r : ReceiverDecl) (is : slice_get k.rece
         method = x;
         numbered = i;
         its_method = j;
-        struct_is = struct_there k.surface k.receivers.items what.receiver r is ∙ i;
-        method_is = method_there k.surface what.method k.receivers.items what.receiver r is ∙ (ap (option_and_then (method_numbered what.method)) i ∙ j);
+        struct_is = struct_there k.surface.value k.receivers.items what.receiver r is ∙ i;
+        method_is = method_there k.surface.value what.method k.receivers.items what.receiver r is ∙ (ap (option_and_then (method_numbered what.method)) i ∙ j);
         is = g;
       }
 
-      by : (o : Option PublicStruct) → struct_numbered k.surface r.of.0 ≡ o → FoundAlike (IsStruct (loaded_of k).program k.surface) o (Some e) → HasEntry k what m
+      by : (o : Option PublicStruct) → struct_numbered k.surface.value r.of.0 ≡ o → FoundAlike (IsStruct (loaded_of k).program k.surface.value) o (Some e) → HasEntry k what m
       by None i g = absurd g
       by (Some of) i g = by_method of i (method_numbered what.method of) refl m (h of g)
 
-  pub no_entry : FoundAlike {B = StructEntry} (IsStruct (loaded_of k).program k.surface) (struct_numbered k.surface r.of.0) None → HasEntry k what None
-  no_entry f = by (struct_numbered k.surface r.of.0) refl f
+  pub no_entry : FoundAlike {B = StructEntry} (IsStruct (loaded_of k).program k.surface.value) (struct_numbered k.surface.value r.of.0) None → HasEntry k what None
+  no_entry f = by (struct_numbered k.surface.value r.of.0) refl f
     where
-      by : (o : Option PublicStruct) → struct_numbered k.surface r.of.0 ≡ o → FoundAlike {B = StructEntry} (IsStruct (loaded_of k).program k.surface) o None → HasEntry k what None
-      by None i g = method_there k.surface what.method k.receivers.items what.receiver r is ∙ ap (option_and_then (method_numbered what.method)) i
+      by : (o : Option PublicStruct) → struct_numbered k.surface.value r.of.0 ≡ o → FoundAlike {B = StructEntry} (IsStruct (loaded_of k).program k.surface.value) o None → HasEntry k what None
+      by None i g = method_there k.surface.value what.method k.receivers.items what.receiver r is ∙ ap (option_and_then (method_numbered what.method)) i
       by (Some of) i g = absurd g
 
 -- A call that means no method, or one without a function.
@@ -236,35 +236,35 @@ no_callee k what turns e = λ m host n.
 
 pub no_function_there : (k : Known) (what : HostCall) (turns : ℕ) (e : MethodEntry) → Means k what e → e.function ≡ None → IsCallee k what turns None
 no_function_there k what turns e means i = λ m host n.
-    ap (λ (o : Option PublicStruct). defined (option_and_then (λ s. option_and_then (λ method. option_map (call_of (loaded_of k) m s method what host n) (slice_get (loaded_of k).pointers what.receiver)) (called_method k.surface (map receiver_of k.receivers.items) what)) o)) means.struct_is
+    ap (λ (o : Option PublicStruct). defined (option_and_then (λ s. option_and_then (λ method. option_map (call_of (loaded_of k) m s method what host n) (slice_get (loaded_of k).pointers what.receiver)) (called_method k.surface.value (map receiver_of k.receivers.items) what)) o)) means.struct_is
     ∙ (ap (λ (o : Option PublicMethod). defined (option_and_then (λ method. option_map (call_of (loaded_of k) m means.of method what host n) (slice_get (loaded_of k).pointers what.receiver)) o)) means.method_is
     ∙ by m host n (slice_get (loaded_of k).pointers what.receiver))
   where
-    by : (m : Memory) (host : Host) (n : ℕ) (o : Option Value) → defined (option_map (call_of (loaded_of k) m means.of means.method what host n) o) ≡ not_defined
+    by : (m : Memory) (host : Host) (n : ℕ) (o : Option CValue) → defined (option_map (call_of (loaded_of k) m means.of means.method what host n) o) ≡ not_defined
     by m host n None = refl
     by m host n (Some v) =
-        ap (response (call_ended (loaded_of k) m means.method what host (most_args k.surface.structs)))
-        (no_function (loaded_of k).program (function_name k.surface means.of means.method.name) n (v ∷ all_values host (length m) (length m + most_args k.surface.structs) what.args) (call_memory host m (most_args k.surface.structs) what.args)
+        ap (response (call_ended (loaded_of k) m means.method what host (most_args k.surface.value.structs)))
+        (no_function (loaded_of k).program (function_name k.surface.value means.of means.method.name) n (v ∷ all_values host (length m) (length m + most_args k.surface.value.structs) what.args) (call_memory host m (most_args k.surface.value.structs) what.args)
         (sym i ∙ means.is.function))
 
 -- The function that initializes a receiver.
 module _ (k : Known) (receiver : ℕ) (r : ReceiverDecl) (is : slice_get k.receivers.items receiver ≡ Some r) where
-  pub initializer_found : (e : StructEntry) → FoundAlike (IsStruct (loaded_of k).program k.surface) (struct_numbered k.surface r.of.0) (Some e) → IsInited k receiver e.initialize
-  initializer_found e f = by (struct_numbered k.surface r.of.0) refl f
+  pub initializer_found : (e : StructEntry) → FoundAlike (IsStruct (loaded_of k).program k.surface.value) (struct_numbered k.surface.value r.of.0) (Some e) → IsInited k receiver e.initialize
+  initializer_found e f = by (struct_numbered k.surface.value r.of.0) refl f
     where
-      by : (o : Option PublicStruct) → struct_numbered k.surface r.of.0 ≡ o → FoundAlike (IsStruct (loaded_of k).program k.surface) o (Some e) → IsInited k receiver e.initialize
+      by : (o : Option PublicStruct) → struct_numbered k.surface.value r.of.0 ≡ o → FoundAlike (IsStruct (loaded_of k).program k.surface.value) o (Some e) → IsInited k receiver e.initialize
       by None i g = absurd g
-      by (Some of) i g = record { of = of; struct_is = struct_there k.surface k.receivers.items receiver r is ∙ i; function_is = g.initialize }
+      by (Some of) i g = record { of = of; struct_is = struct_there k.surface.value k.receivers.items receiver r is ∙ i; function_is = g.initialize }
 
-  pub is_declared : IsKnown k → FoundAlike {B = StructEntry} (IsStruct (loaded_of k).program k.surface) (struct_numbered k.surface r.of.0) None → ⊥
-  is_declared known f = by (struct_numbered k.surface r.of.0) refl f
+  pub is_declared : IsKnown k → FoundAlike {B = StructEntry} (IsStruct (loaded_of k).program k.surface.value) (struct_numbered k.surface.value r.of.0) None → ⊥
+  is_declared known f = by (struct_numbered k.surface.value r.of.0) refl f
     where
-      there : (rs : List ReceiverDecl) (n : ℕ) → slice_get rs n ≡ Some r → All (λ receiver. IsSomeAnd (struct_numbered k.surface receiver.struct_number) (λ _. ⊤)) (map receiver_of rs) → IsSomeAnd (struct_numbered k.surface r.of.0) (λ _. ⊤)
+      there : (rs : List ReceiverDecl) (n : ℕ) → slice_get rs n ≡ Some r → All (λ receiver. IsSomeAnd (struct_numbered k.surface.value receiver.struct_number) (λ _. ⊤)) (map receiver_of rs) → IsSomeAnd (struct_numbered k.surface.value r.of.0) (λ _. ⊤)
       there [] n e h = absurd (cc (e))
-      there (x ∷ rs) zero e h = let t : x ≡ r = cc (e) in subst (λ (y : ReceiverDecl). IsSomeAnd (struct_numbered k.surface y.of.0) (λ _. ⊤)) t (h 0 (receiver_of x) (omega arith))
+      there (x ∷ rs) zero e h = let t : x ≡ r = cc (e) in subst (λ (y : ReceiverDecl). IsSomeAnd (struct_numbered k.surface.value y.of.0) (λ _. ⊤)) t (h 0 (receiver_of x) (omega arith))
       there (x ∷ rs) (suc n) e h = there rs n e (λ i d l. h (suc i) d (omega (arith, l)))
 
-      by : (o : Option PublicStruct) → struct_numbered k.surface r.of.0 ≡ o → FoundAlike {B = StructEntry} (IsStruct (loaded_of k).program k.surface) o None → ⊥
+      by : (o : Option PublicStruct) → struct_numbered k.surface.value r.of.0 ≡ o → FoundAlike {B = StructEntry} (IsStruct (loaded_of k).program k.surface.value) o None → ⊥
       by None i g = absurd (subst (λ (o : Option PublicStruct). IsSomeAnd o (λ _. ⊤)) i (there k.receivers.items receiver is known.declared))
       by (Some of) i g = absurd g
 
@@ -274,8 +274,8 @@ mapped_length (x ∷ xs) = ap suc (mapped_length xs)
 
 pub as_many_pointers : (k : Known) → IsKnown k → length k.pointers.items ≡ length k.receivers.items
 as_many_pointers k known =
-    ap (λ (xs : List Value). length xs) known.pointers
-    ∙ (pointers_length (loaded_of k).program k.surface (map receiver_of k.receivers.items) (map text_object (loaded_of k).program.texts) ∙ mapped_length k.receivers.items)
+    ap (λ (xs : List CValue). length xs) known.pointers
+    ∙ (pointers_length (loaded_of k).program k.surface.value (map receiver_of k.receivers.items) (map text_object (loaded_of k).program.texts) ∙ mapped_length k.receivers.items)
 
 pub receiver_exists : (k : Known) (n : ℕ) → n < length (map receiver_of k.receivers.items) → n < length k.receivers.items
 receiver_exists k n h = let e = mapped_length k.receivers.items in omega (arith, e, h)

@@ -1,15 +1,11 @@
--- What a loader needs of a package's surface, and what is seen of an engine that runs nothing.
-use Rattle.std.proofs.Common.{◌≡◌, ℕ, ◌<◌, false, Result, Ok, Err, IfOk, List, [], ◌∷◌, length, map, take, Some, sym, subst, ap, ◌∙◌, arith}
+-- What is seen of the engines of the loaders.
+use Rattle.std.proofs.Common.{◌≡◌, ℕ, ◌<◌, false, Result, Ok, Err, IfOk, List, [], ◌∷◌, length, map, Some, ap, ◌∙◌, arith}
 use Rattle.std.specs.Prelude.{slice_get}
 use Rattle.wf_text.specs.Surface.{Surface}
 use Rattle.wf_text.specs.HostActions.{HostAction, Receiver}
 use Rattle.wf_base.specs.BaseOps.{Buffer}
 use Rattle.wf_base.specs.HostRun.{empty_host, run}
 use Rattle.wf_base.specs.LawfulActions.{AreLawful}
-use Rattle.wf_ast.specs.BaseStatuses.{base_statuses}
-use Rattle.wf_ast.specs.declared.typed_nodes.TypedNodes.{TypedNodes}
-use Rattle.wf_ast.specs.TypedInvariant.{IsTyped}
-use Rattle.wf_ast.specs.TypedPackage.{package_of, surface_of}
 use Rattle.wf_bufs.specs.declared.calls.ReceiverDecl.{ReceiverDecl}
 use Rattle.wf_bufs.specs.EngineLaw.{steps_of}
 use Rattle.wf_bufs.specs.SurfaceViews.{receiver_of}
@@ -21,23 +17,10 @@ use Rattle.c_step_engine.specs.Engines.{EngineState, surface_of as surface_in, i
 use Rattle.c_step.specs.Loading.{zero_seen}
 use Rattle.c_step.specs.Machines.{MachineView, state_of}
 
--- A typed package's surface has a first status.
-pub has_status : (nodes : TypedNodes) → IsTyped nodes → (s : Surface) → s ≡ surface_of (package_of nodes) → 0 < length s.statuses
-unfolding package_of surface_of
-has_status nodes typed s is = subst (λ (s : Surface). 0 < length s.statuses) (sym is) (by nodes.statuses typed.base_first)
-  where
-    by : (xs : List (List ℕ)) → take 10 xs ≡ base_statuses → 0 < length xs
-    by [] e = absurd (cc (e))
-    by (x ∷ xs) e = omega arith
-
--- It is ok, whose text is empty.
-pub first_status : (nodes : TypedNodes) → IsTyped nodes → (s : Surface) → s ≡ surface_of (package_of nodes) → slice_get s.statuses 0 ≡ Some []
-unfolding package_of surface_of
-first_status nodes typed s is = ap (λ (t : Surface). slice_get t.statuses 0) is ∙ by nodes.statuses typed.base_first
-  where
-    by : (xs : List (List ℕ)) → take 10 xs ≡ base_statuses → slice_get xs 0 ≡ Some []
-    by [] e = absurd (cc (e))
-    by (x ∷ xs) e = let first : x ≡ [] = cc (e) in ap Some first
+-- Where the first status is ok, there is one.
+pub has_status : (xs : List (List ℕ)) → slice_get xs 0 ≡ Some [] → 0 < length xs
+has_status [] e = absurd (cc (e))
+has_status (x ∷ xs) e = omega arith
 
 pub zero_run : (v : Surface × List Receiver) (mine s : Surface) (own rs : List ReceiverDecl) → v ≡ (mine, map receiver_of own) → mine ≡ s → own ≡ rs → (items : List ItemTree) (actions : List (HostAction Buffer))
     → run (steps_of (λ (state : Surface × List Receiver). state.0) (λ state receiver turns. zero_init state) (λ state called host turns. zero_call state called host)) v empty_host actions ≡ zero_seen items s (map receiver_of rs) actions

@@ -28,7 +28,7 @@ use Rattle.c_step_tables.specs.Tables.{IsMethod, AreStructs}
 
 -- The text with its package's surface and the receivers.
 abbrev pub loaded_of : Known → Loaded
-loaded_of k = loaded (program_of (unit_tree k.unit)) k.surface (map receiver_of k.receivers.items)
+loaded_of k = loaded (program_of (unit_tree k.unit)) k.surface.value (map receiver_of k.receivers.items)
 
 -- The greatest number of parameters and locals along a chain of calls that begins at an external function of a program.
 abbrev pub program_cells : Program → ℕ
@@ -49,12 +49,12 @@ pub record IsLoaded (nodes : Nodes) (surface : Surface) (receivers : List Receiv
 
 -- The tables are those of the text, which has the unit form for the package. The first status is ok.
 pub record IsKnown (k : Known) : Type 0 where
-  pub form : HasUnitForm k.surface (unit_tree k.unit)
-  pub ok : slice_get k.surface.statuses 0 ≡ Some []
-  pub declared : AreDeclared k.surface (map receiver_of k.receivers.items)
+  pub form : HasUnitForm k.surface.value (unit_tree k.unit)
+  pub ok : slice_get k.surface.value.statuses 0 ≡ Some []
+  pub declared : AreDeclared k.surface.value (map receiver_of k.receivers.items)
   pub pointers : k.pointers.items ≡ (loaded_of k).pointers
-  pub structs : AreStructs (loaded_of k).program k.surface k.surface.structs k.structs.items
-  pub statuses : AreStatuses (loaded_of k).program k.surface k.statuses.items
+  pub structs : AreStructs (loaded_of k).program k.surface.value k.surface.value.structs k.structs.items
+  pub statuses : AreStatuses (loaded_of k).program k.surface.value k.statuses.items
   pub functions : length k.code.functions ≡ length (loaded_of k).program.functions
   pub cells : k.cells ≡ program_cells (loaded_of k).program
 
@@ -62,7 +62,7 @@ pub record IsKnown (k : Known) : Type 0 where
 pub record IsReady (k : Known) (room : Room) (st : Store) : Type 0 where
   pub coded : AreCoded k.code st.frames.items st.args.items (loaded_of k).program (loaded_of k).program.functions
   pub rests : IsResting k.code room st
-  pub most : room.most ≡ most_args k.surface.structs
+  pub most : room.most ≡ most_args k.surface.value.structs
 
 -- That is so unless the machine has stopped.
 abbrev pub ReadyUnless : (stopped : Bool) → Known → Room → Store → Type 0
@@ -74,14 +74,14 @@ pub record Means (k : Known) (what : HostCall) (e : MethodEntry) : Type 0 where
   pub structure : ℕ
   pub of : PublicStruct
   pub method : PublicMethod
-  pub numbered : struct_numbered k.surface structure ≡ Some of
+  pub numbered : struct_numbered k.surface.value structure ≡ Some of
   pub its_method : method_numbered what.method of ≡ Some method
   pub struct_is : struct_of (loaded_of k) what.receiver ≡ Some of
-  pub method_is : called_method k.surface (map receiver_of k.receivers.items) what ≡ Some method
-  pub is : IsMethod (loaded_of k).program k.surface of method e
+  pub method_is : called_method k.surface.value (map receiver_of k.receivers.items) what ≡ Some method
+  pub is : IsMethod (loaded_of k).program k.surface.value of method e
 
 abbrev pub HasEntry : Known → HostCall → Option MethodEntry → Type 0
-HasEntry k what None = called_method k.surface (map receiver_of k.receivers.items) what ≡ None
+HasEntry k what None = called_method k.surface.value (map receiver_of k.receivers.items) what ≡ None
 HasEntry k what (Some e) = Means k what e
 
 -- The function that a call means.
@@ -102,7 +102,7 @@ IsCallee k what turns (Some c) = Calls k what turns c
 pub record IsInited (k : Known) (receiver : ℕ) (function : Option ℕ) : Type 0 where
   pub of : PublicStruct
   pub struct_is : struct_of (loaded_of k) receiver ≡ Some of
-  pub function_is : function ≡ function_number (loaded_of k).program.functions (initialize_name k.surface of)
+  pub function_is : function ≡ function_number (loaded_of k).program.functions (initialize_name k.surface.value of)
 
 -- A machine as other crates see it, and its state.
 pub record MachineView : Type 0 where

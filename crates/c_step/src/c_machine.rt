@@ -6,8 +6,7 @@ use c_form::LoadFault;
 use c_step_engine::laws::what_is_seen_is_c_run;
 use c_text::Unit;
 use std::alloc::Global;
-use wf_ast::Typed;
-use wf_bufs::ReceiverDecl;
+use wf_bufs::{PublicSurface, ReceiverDecl};
 
 /// Its engine executes the text by the meaning of C, so it is plain.
 #[derive(Clone, Copy)]
@@ -29,10 +28,10 @@ impl Loader for CMachine {
         &mut self,
         alloc: Global,
         u: Unit,
-        t: &Typed,
+        surface: &PublicSurface,
         receivers: &[ReceiverDecl],
     ) -> Result<Machine, LoadFault> {
         what_is_seen_is_c_run();
-        Machine::load(alloc, u, t, receivers)
+        Machine::load(alloc, u, surface, receivers)
     }
 }

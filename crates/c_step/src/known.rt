@@ -15,11 +15,12 @@ ghost use Rattle.c_step_engine.specs.Engines.{given, OnDone};
 ghost use Rattle.c_step_calls.specs.Resting.{RestsAgain};
 ghost use Rattle.c_step.specs.Machines.{loaded_of, IsKnown, IsReady, HasEntry, IsCallee, IsInited};
 
-use c_meaning::values::Value;
+use c_meaning::values::CValue;
 use c_step_calls::{Called, Room, call_on_host, init_receiver};
 use c_step_run::{Code, Store};
 use c_step_tables::{MethodEntry, StructEntry, struct_entry};
 use c_text::Unit;
+use std::snapshot::Snapshot;
 use wf_bufs::{Bufs, Call, PublicSurface, ReceiverDecl, Reply};
 use wf_text::StatusId;
 
@@ -27,12 +28,12 @@ use wf_text::StatusId;
 pub(crate) struct Known {
     /// The text.
     pub(crate) unit: Unit,
-    /// The package's public surface.
-    pub(crate) surface: PublicSurface,
+    /// The package's public surface, of which the machine reads nothing while it runs.
+    pub(crate) surface: Snapshot<PublicSurface>,
     /// The receivers.
     pub(crate) receivers: Vec<ReceiverDecl>,
     /// The pointers to them.
-    pub(crate) pointers: Vec<Value>,
+    pub(crate) pointers: Vec<CValue>,
     /// The public functions.
     pub(crate) structs: Vec<StructEntry>,
     /// The statuses of the strings that have one.
@@ -94,7 +95,7 @@ impl Known {
     }
 
     /// The pointer to a receiver.
-    fn pointer(&self, receiver: u16) -> Value
+    fn pointer(&self, receiver: u16) -> CValue
         requires known { IsKnown self.now }
         requires exists { receiver < length self.now.receivers.items }
         ensures { slice_get (loaded_of self.now).pointers receiver ≡ Some result }
@@ -103,7 +104,7 @@ impl Known {
     }
 
     /// A pointer in the list.
-    fn pointer_at(&self, k: u16) -> Value
+    fn pointer_at(&self, k: u16) -> CValue
         requires { k < length self.now.pointers.items }
         ensures { slice_get self.now.pointers.items k ≡ Some result }
     {
@@ -126,8 +127,8 @@ impl Known {
         requires ready { IsReady self.now room.now st.old }
         requires exists { receiver < length self.now.receivers.items }
         ensures rests { OnDone result (RestsAgain self.now.code room.now room.now st.old st.new) }
-        ensures replies { Replies (given self.now.surface (λ x. x) (c_init (loaded_of self.now) (memory st.old.mem) receiver turns)) result (memory st.new.mem) }
-        ensures kind { DoneFits self.now.surface status result }
+        ensures replies { Replies (given self.now.surface.value (λ x. x) (c_init (loaded_of self.now) (memory st.old.mem) receiver turns)) result (memory st.new.mem) }
+        ensures kind { DoneFits self.now.surface.value status result }
     {
         init_receiver(
             &self.code,
@@ -151,10 +152,10 @@ impl Known {
     ) -> Reply
         requires known { IsKnown self.now }
         requires ready { IsReady self.now room.old st.old }
-        requires can { CanCall self.now.surface (map receiver_of self.now.receivers.items) (length host.old.bufs) (length host.old.arrays) (call_of what.now) }
+        requires can { CanCall self.now.surface.value (map receiver_of self.now.receivers.items) (length host.old.bufs) (length host.old.arrays) (call_of what.now) }
         ensures rests { OnDone result (RestsAgain self.now.code room.old room.new st.old st.new) }
-        ensures replies { Replies {After = Memory × Host} (given self.now.surface (λ x. x) (c_call (loaded_of self.now) (memory st.old.mem) (call_of what.now) (host_of host.old) turns)) result (memory st.new.mem, host_of host.new) }
-        ensures kind { FitsCalled self.now.surface (map receiver_of self.now.receivers.items) (call_of what.now) result }
+        ensures replies { Replies {After = Memory × Host} (given self.now.surface.value (λ x. x) (c_call (loaded_of self.now) (memory st.old.mem) (call_of what.now) (host_of host.old) turns)) result (memory st.new.mem, host_of host.new) }
+        ensures kind { FitsCalled self.now.surface.value (map receiver_of self.now.receivers.items) (call_of what.now) result }
         ensures sizes { KeepsSizes result (host_of host.old) (host_of host.new) }
     {
         match self.callee(what, turns) {

@@ -6,6 +6,7 @@ mod known;
 pub mod loader;
 mod loading;
 pub mod machine;
+mod surface_copies;
 pub mod zero_loader;
 
 pub use c_machine::CMachine;

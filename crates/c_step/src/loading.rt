@@ -2,9 +2,6 @@
 
 ghost use Rattle.std.specs.Prelude.{◌≡◌, map, IfOk, OnOk, IfErr};
 ghost use Rattle.wf_bufs.specs.SurfaceViews.{receiver_of};
-ghost use Rattle.wf_ast.specs.TypedInvariant.{IsTyped};
-ghost use Rattle.wf_ast.specs.TypedPackage.{package_of, surface_of};
-ghost use Rattle.wf_surfaces.specs.Names.{HasNames};
 ghost use Rattle.c_text.specs.CNodes.{unit_tree};
 ghost use Rattle.c_meaning.specs.CCall.{program_of};
 ghost use Rattle.c_meaning.specs.UnitForm.{HasUnitForm};
@@ -21,9 +18,7 @@ use c_step_objects::{Started, start};
 use c_step_tables::StructEntry;
 use c_text::Unit;
 use std::alloc::Global;
-use wf_ast::Typed;
 use wf_bufs::{PublicSurface, ReceiverDecl};
-use wf_surfaces::public_surface;
 use wf_text::{NoMemory, StatusId};
 
 /// A copy of the receivers.
@@ -33,20 +28,8 @@ pub(crate) fn copied(
 ) -> Result<Vec<ReceiverDecl>, NoMemory>
     ensures { IfOk result (λ it. it.items ≡ receivers.now) }
 {
-    let mut all = Vec::new(alloc);
-    all.extend_from_slice(receivers)?;
+    let all = Vec::from_slice(alloc, receivers)?;
     Ok(all)
-}
-
-/// The public surface of a package.
-pub(crate) fn surface_for(alloc: Global, t: &Typed) -> Result<PublicSurface, LoadFault>
-    requires names { HasNames t.now }
-    requires typed { IsTyped t.now }
-    ensures surface { IfOk result (λ it. it ≡ surface_of (package_of t.now)) }
-    ensures refused { IfErr result (λ fault. fault ≡ LoadFault.Memory) }
-{
-    let surface = public_surface(alloc, t)?;
-    Ok(surface)
 }
 
 /// Tables of a text for a package's surface.

@@ -1,12 +1,9 @@
 // The engine that executes a text of C.
 
-ghost use Rattle.std.specs.Prelude.{◌≡◌, [], false, length, map, slice_get, Some, IfOk, OnOk, IfErr};
-ghost use Rattle.wf_ast.specs.TypedInvariant.{IsTyped};
-ghost use Rattle.wf_ast.specs.TypedPackage.{package_of, surface_of as surface_in};
+ghost use Rattle.std.specs.Prelude.{◌≡◌, [], false, map, slice_get, Some, IfOk, OnOk, IfErr};
 ghost use Rattle.wf_base.specs.LawfulActions.{AreDeclared};
 ghost use Rattle.wf_bufs.specs.EngineLaw.{stops as stops_at};
 ghost use Rattle.wf_bufs.specs.SurfaceViews.{receiver_of};
-ghost use Rattle.wf_surfaces.specs.Names.{HasNames};
 ghost use Rattle.c_text.specs.CNodes.{unit_tree};
 ghost use Rattle.c_meaning.specs.CCall.{program_of};
 ghost use Rattle.c_meaning.specs.UnitForm.{HasUnitForm};
@@ -15,7 +12,7 @@ ghost use Rattle.c_step_engine.specs.Engines.{first_state};
 ghost use Rattle.c_step.specs.Machines.{IsLoaded, state_of, program_cells};
 
 use crate::known::Known;
-use crate::loading::{LoadedText, Tables, copied, load_text, surface_for};
+use crate::loading::{LoadedText, Tables, copied, load_text};
 use c_form::LoadFault;
 use c_step_calls::Room;
 use c_step_objects::Started;
@@ -23,7 +20,7 @@ use c_step_run::Store;
 use c_text::Unit;
 use std::alloc::Global;
 use std::marker::Model;
-use wf_ast::Typed;
+use std::snapshot::Snapshot;
 use wf_bufs::{Bufs, Call, Engine, PublicSurface, ReceiverDecl, Reply};
 
 /// Executes a text of C that has the unit form for a package. It takes no memory while it runs.
@@ -43,46 +40,44 @@ impl Model for Machine {
 
     ghost Value = { MachineView };
 
-    ghost view = { λ it. record { nodes = it.known.unit; surface = it.known.surface; receivers = map receiver_of it.known.receivers.items; memory = memory it.store.mem; stopped = it.stopped } };
+    ghost view = { λ it. record { nodes = it.known.unit; surface = it.known.surface.value; receivers = map receiver_of it.known.receivers.items; memory = memory it.store.mem; stopped = it.stopped } };
 
     ghost invariant = { λ it. IsKnown it.known × ReadyUnless it.stopped it.known it.room it.store };
 }
 
 impl Machine {
-    /// The machine of a text for a package, before anything has run: the receivers, of public structs of `t`, are zero or
-    /// null. `NoSuchForm`: the text hasn't the unit form for `t`; its number is that of the first item that breaks it, or of
-    /// the items, where there is none or a public function is missing. `Memory`: memory was refused.
+    /// The machine of a text for the package with this surface, before anything has run: the receivers, of public structs, are
+    /// zero or null. `NoSuchForm`: the text hasn't the unit form for the package; its number is that of the first item that
+    /// breaks it, or of the items, where there is none or a public function is missing. `Memory`: memory was refused.
     pub fn load(
         alloc: Global,
         u: Unit,
-        t: &Typed,
+        surface: &PublicSurface,
         receivers: &[ReceiverDecl],
     ) -> Result<Machine, LoadFault>
-        requires names { HasNames t.now }
-        requires typed { IsTyped t.now }
-        requires declared { AreDeclared (surface_in (package_of t.now)) (map receiver_of receivers.now) }
-        ensures form { OnOk result (HasUnitForm (surface_in (package_of t.now)) (unit_tree u)) }
-        ensures state { IfOk result (λ it. state_of it ≡ first_state (unit_tree u) (surface_in (package_of t.now)) (map receiver_of receivers.now)) }
-        ensures refused { IfErr result (Refuses (surface_in (package_of t.now)) (unit_tree u)) }
+        requires ok { slice_get surface.now.statuses 0 ≡ Some [] }
+        requires declared { AreDeclared surface.now (map receiver_of receivers.now) }
+        ensures form { OnOk result (HasUnitForm surface.now (unit_tree u)) }
+        ensures state { IfOk result (λ it. state_of it ≡ first_state (unit_tree u) surface.now (map receiver_of receivers.now)) }
+        ensures refused { IfErr result (Refuses surface.now (unit_tree u)) }
     {
-        let surface = surface_for(alloc, t)?;
+        let text = load_text(alloc, &u, surface, receivers)?;
         let receivers = copied(alloc, receivers)?;
-        let text = load_text(alloc, &u, &surface, receivers.as_slice())?;
         Ok(Machine::begin(u, surface, receivers, text))
     }
 
     /// The machine of a text that has the unit form for the package with this surface, before anything has run.
     fn begin(
         unit: Unit,
-        surface: PublicSurface,
+        surface: &PublicSurface,
         receivers: Vec<ReceiverDecl>,
         text: LoadedText,
     ) -> Machine
-        requires form { HasUnitForm surface (unit_tree unit) }
-        requires ok { slice_get surface.statuses 0 ≡ Some [] }
-        requires declared { AreDeclared surface (map receiver_of receivers.items) }
-        requires loaded { IsLoaded unit surface (map receiver_of receivers.items) text }
-        ensures { state_of result ≡ first_state (unit_tree unit) surface (map receiver_of receivers.items) }
+        requires form { HasUnitForm surface.now (unit_tree unit) }
+        requires ok { slice_get surface.now.statuses 0 ≡ Some [] }
+        requires declared { AreDeclared surface.now (map receiver_of receivers.items) }
+        requires loaded { IsLoaded unit surface.now (map receiver_of receivers.items) text }
+        ensures { state_of result ≡ first_state (unit_tree unit) surface.now (map receiver_of receivers.items) }
     {
         let LoadedText {
             tables,
@@ -99,7 +94,7 @@ impl Machine {
         Machine {
             known: Known {
                 unit,
-                surface,
+                surface: Snapshot::of(surface),
                 receivers,
                 pointers,
                 structs,
@@ -113,8 +108,8 @@ impl Machine {
         }
     }
 
-    /// The greatest number of parameters and locals together along a chain of calls that begins at an external function of the
-    /// text.
+    /// How many parameters and locals at most the functions of one chain of calls have together, of the chains that begin at
+    /// an external function of the text.
     pub(crate) fn frame_cells(&self) -> u64
         ensures { result ≡ program_cells (program_of (unit_tree self.now.nodes)) }
     {

@@ -1,15 +1,15 @@
 // A loader for tests, whose engine runs nothing.
 
 use crate::loader::Loader;
-use crate::loading::{copied, surface_for};
+use crate::loading::copied;
+use crate::surface_copies::surface_copied;
 use c_form::{LoadFault, formed};
 use c_text::Unit;
 use std::alloc::Global;
-use wf_ast::Typed;
-use wf_bufs::{ReceiverDecl, ZeroEngine};
+use wf_bufs::{PublicSurface, ReceiverDecl, ZeroEngine};
 
-/// Its engine answers ok to each init, and to each call ok, 0, false or nothing, as the method's answer has it; it leaves the
-/// buffers as they are. It isn't plain.
+/// Of its engine each init is ok, and each call has the least answer of the method's kind: ok, 0, false or nothing. No buffer
+/// is changed. It isn't plain.
 #[derive(Clone, Copy)]
 pub struct ZeroLoader;
 
@@ -29,12 +29,12 @@ impl Loader for ZeroLoader {
         &mut self,
         alloc: Global,
         u: Unit,
-        t: &Typed,
+        surface: &PublicSurface,
         receivers: &[ReceiverDecl],
     ) -> Result<ZeroEngine, LoadFault> {
-        let surface = surface_for(alloc, t)?;
+        formed(alloc, &u, surface)?;
+        let surface = surface_copied(alloc, surface)?;
         let receivers = copied(alloc, receivers)?;
-        formed(alloc, &u, &surface)?;
         Ok(ZeroEngine::new(surface, receivers))
     }
 }

@@ -1,14 +1,14 @@
 -- An answer of a text of the unit form is of the kind that its method declares.
-use Rattle.std.proofs.Common.{◌≡◌, ℕ, zero, suc, ◌^◌, ◌<◌, Bool, true, false, List, [], ◌∷◌, ◌++◌, length, map, take, drop, ◌+◌, Option, Some, None, refl, sym, subst, ap, ◌∙◌, arith}
+use Rattle.std.proofs.Common.{◌≡◌, ℕ, suc, ◌^◌, ◌<◌, Bool, true, false, List, [], ◌∷◌, ◌++◌, length, map, take, drop, ◌+◌, Option, Some, None, refl, sym, subst, ap, ◌∙◌, arith}
 use Rattle.std.specs.Prelude.{◌&&◌, ◌||◌, if◌then◌else◌, nat_eq, find, reverse, slice_get, option_map, option_and_then, bytes_eq}
 use Rattle.std.specs.List.{list_any, list_all}
-use Rattle.std.proofs.lemmas.List.{append_assoc, append-nil, reverse-append}
+use Rattle.std.proofs.lemmas.List.{reverse-append}
 use Rattle.turns.specs.Run.{Outcome as Ran, Got, More, Lost}
 use Rattle.wf_text.specs.Surface.{Surface, PublicStruct, PublicMethod}
 use Rattle.wf_text.specs.Surface as kind
 use Rattle.wf_text.specs.Seen.{Answer}
 use Rattle.wf_text.specs.Seen as answer
-use Rattle.wf_base.specs.HostRun.{Host, HostCall, Response, answers, needs_more, not_defined}
+use Rattle.wf_base.specs.HostRun.{Host, HostCall, answers}
 use Rattle.wf_base.specs.LawfulActions.{struct_numbered, method_numbered}
 use Rattle.wf_base.specs.declared.widths.Width.{Width}
 use Rattle.wf_base.specs.declared.widths.Width.TheVariants.{W8, W16, W32, W64}
@@ -17,14 +17,14 @@ use Rattle.wf_bufs.specs.declared.surfaces.AnswerKind.{AnswerKind}
 use Rattle.wf_bufs.specs.declared.surfaces.AnswerKind.TheVariants.{Status as AStatus, Number as ANumber, Flag as AFlag, Nothing as ANothing}
 use Rattle.wf_bufs.specs.declared.outcomes.Outcome.{Outcome}
 use Rattle.wf_bufs.specs.SurfaceViews.{answer_kind_of}
-use Rattle.wf_bufs.specs.EngineLaw.{Gives, done, turns, undefined, FitsAnswer}
+use Rattle.wf_bufs.specs.EngineLaw.{done, FitsAnswer}
 use Rattle.c_text.specs.declared.kinds.CUint.{CUint}
 use Rattle.c_text.specs.declared.kinds.CUint.TheVariants as width
 use Rattle.c_text.specs.CTree.{TypeTree, uint, size, boolean, uint_pointer, struct_pointer, text, ItemTree, struct_item, text_item, function_item}
 use Rattle.c_text.proofs.Names.{bytes_eq-true, bytes_eq-refl}
 use Rattle.c_meaning.specs.declared.values.Pointer.{Pointer}
-use Rattle.c_meaning.specs.declared.values.Value.{Value}
-use Rattle.c_meaning.specs.declared.values.Value.TheVariants.{Numeric as numeric, Address as address, NullPointer as null_pointer}
+use Rattle.c_meaning.specs.declared.values.CValue.{CValue}
+use Rattle.c_meaning.specs.declared.values.CValue.TheVariants.{Numeric as numeric, Address as address, NullPointer as null_pointer}
 use Rattle.c_meaning.specs.CValues.{is_nonzero}
 use Rattle.c_meaning.specs.CMemory.{Memory}
 use Rattle.c_meaning.specs.CTypes.{TextDecl, Function, functions_of, function_named, same_uint, same_type}
@@ -104,7 +104,7 @@ text_fits s (Some them) a h e =
     let is : answer.status them ≡ a = cc (e) in
     subst P is (status_below s.statuses them (any_after s.statuses them h))
 
-status_fits : (p : Program) (s : Surface) (v : Option Value) (a : Answer) → slice_get s.statuses 0 ≡ Some [] → answer_of p s kind.status v ≡ Some a → FitsAnswer s kind.status (outcome_for s a)
+status_fits : (p : Program) (s : Surface) (v : Option CValue) (a : Answer) → slice_get s.statuses 0 ≡ Some [] → answer_of p s kind.status v ≡ Some a → FitsAnswer s kind.status (outcome_for s a)
 status_fits p s None a ok e = absurd (cc (e))
 status_fits p s (Some null_pointer) a ok e =
     let P : Answer → Type 0 = λ a. FitsAnswer s kind.status (outcome_for s a) in
@@ -146,7 +146,7 @@ number_fits W16 t n e h = subst (λ (t : TypeTree). NumberIs (cell_type t) n) (t
 number_fits W32 t n e h = subst (λ (t : TypeTree). NumberIs (cell_type t) n) (type_is width.U32 t e) h
 number_fits W64 t n e h = subst (λ (t : TypeTree). NumberIs (cell_type t) n) (type_is width.U64 t e) h
 
-answer_fits : (p : Program) (s : Surface) (k : AnswerKind) (type : Option TypeTree) (v : Option Value) (a : Answer) → slice_get s.statuses 0 ≡ Some [] → same_result (answer_type (answer_kind_of k)) type ≡ true
+answer_fits : (p : Program) (s : Surface) (k : AnswerKind) (type : Option TypeTree) (v : Option CValue) (a : Answer) → slice_get s.statuses 0 ≡ Some [] → same_result (answer_type (answer_kind_of k)) type ≡ true
     → ResultIs type v → answer_of p s (answer_kind_of k) v ≡ Some a → FitsAnswer s (answer_kind_of k) (outcome_for s a)
 answer_fits p s AStatus type v a ok same is e = status_fits p s v a ok e
 answer_fits p s (ANumber w) type None a ok same is e = absurd (cc (e))
@@ -169,7 +169,7 @@ answer_fits p s ANothing type v a ok same is e =
     let it : answer.nothing ≡ a = cc (e) in
     subst P it tt
 
-kind_fits : (p : Program) (s : Surface) (known : AnswerKind) (k : kind.AnswerKind) (type : Option TypeTree) (v : Option Value) (a : Answer) → answer_kind_of known ≡ k → slice_get s.statuses 0 ≡ Some [] → same_result (answer_type k) type ≡ true
+kind_fits : (p : Program) (s : Surface) (known : AnswerKind) (k : kind.AnswerKind) (type : Option TypeTree) (v : Option CValue) (a : Answer) → answer_kind_of known ≡ k → slice_get s.statuses 0 ≡ Some [] → same_result (answer_type k) type ≡ true
     → ResultIs type v → answer_of p s k v ≡ Some a → FitsAnswer s k (outcome_for s a)
 kind_fits p s known k type v a is ok same r e =
     let P : kind.AnswerKind → Type 0 = λ k. same_result (answer_type k) type ≡ true → answer_of p s k v ≡ Some a → FitsAnswer s k (outcome_for s a) in
@@ -275,7 +275,7 @@ with_fits s k (Some a) None outcome after h e = absurd (cc (e))
 with_fits s k (Some a) (Some x) outcome after h e = subst (FitsAnswer s k) (done_of _ _ _ _ e) (h a refl)
 
 module _ (items : List ItemTree) (it : Loaded) (form : HasUnitForm it.surface items) (is : it.program ≡ program_of items) (ok : slice_get it.surface.statuses 0 ≡ Some []) where
-  pub call_fits : (memory : Memory) (k j : ℕ) (s : PublicStruct) (m : PublicMethod) (known : AnswerKind) (called : HostCall) (host : Host) (n : ℕ) (v : Value) (outcome : Outcome) (after : Memory × Host)
+  pub call_fits : (memory : Memory) (k j : ℕ) (s : PublicStruct) (m : PublicMethod) (known : AnswerKind) (called : HostCall) (host : Host) (n : ℕ) (v : CValue) (outcome : Outcome) (after : Memory × Host)
       → struct_numbered it.surface k ≡ Some s → method_numbered j s ≡ Some m → answer_kind_of known ≡ m.answers → given it.surface (λ x. x) (call_of it memory s m called host n v) ≡ done outcome after → FitsAnswer it.surface m.answers outcome
   call_fits memory k j s m known called host n v outcome after se me ke e =
       by (host_call it.program (function_name it.surface s m.name) n (v ∷ all_values host (length memory) (length memory + most_args it.surface.structs) called.args) (call_memory host memory (most_args it.surface.structs) called.args)) refl e
@@ -294,7 +294,7 @@ module _ (items : List ItemTree) (it : Loaded) (form : HasUnitForm it.surface it
       by More q i = absurd (cc (i))
       by Lost q i = absurd (cc (i))
 
-  pub init_fits : (memory : Memory) (s : PublicStruct) (n : ℕ) (v : Value) (outcome : Outcome) (after : Memory) → given it.surface (λ x. x) (init_of it memory s v n) ≡ done outcome after → FitsAnswer it.surface kind.status outcome
+  pub init_fits : (memory : Memory) (s : PublicStruct) (n : ℕ) (v : CValue) (outcome : Outcome) (after : Memory) → given it.surface (λ x. x) (init_of it memory s v n) ≡ done outcome after → FitsAnswer it.surface kind.status outcome
   init_fits memory s n v outcome after e = by (host_call it.program (initialize_name it.surface s) n (v ∷ []) memory) e
     where
       by : (o : Ran Returned) → given it.surface (λ x. x) (response (init_ended it (length memory)) o) ≡ done outcome after → FitsAnswer it.surface kind.status outcome

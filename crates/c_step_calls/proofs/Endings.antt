@@ -1,5 +1,5 @@
 -- What a call has come to, once what it left is taken back.
-use Rattle.std.proofs.Common.{◌≡◌, ℕ, zero, suc, ◌+◌, ◌-◌, ◌<◌, ◌≤◌, Bool, true, false, List, [], ◌∷◌, length, take, Option, Some, None, refl, sym, subst, ap, ◌∙◌, arith}
+use Rattle.std.proofs.Common.{◌≡◌, ℕ, zero, suc, ◌+◌, ◌<◌, ◌≤◌, Bool, true, false, List, [], ◌∷◌, length, take, Option, Some, None, refl, sym, subst, ap, ◌∙◌, arith}
 use Rattle.std.specs.Prelude.{slice_get, option_map}
 use Rattle.turns.specs.Run.{Outcome as Ran}
 use Rattle.wf_text.specs.Surface.{Surface, PublicStruct, PublicMethod}
@@ -9,8 +9,8 @@ use Rattle.wf_base.specs.HostRun.{Host, HostCall, Response}
 use Rattle.wf_bufs.specs.declared.outcomes.Outcome.{Outcome}
 use Rattle.wf_bufs.specs.declared.outcomes.Reply.{Reply}
 use Rattle.wf_bufs.specs.declared.outcomes.Reply.TheVariants.{Done, Turns, Undefined}
-use Rattle.wf_bufs.specs.EngineLaw.{SameSizes, done, undefined, Replies}
-use Rattle.c_meaning.specs.declared.values.Value.{Value}
+use Rattle.wf_bufs.specs.EngineLaw.{done, undefined, Replies}
+use Rattle.c_meaning.specs.declared.values.CValue.{CValue}
 use Rattle.c_meaning.specs.CMemory.{Object, Memory}
 use Rattle.c_meaning.specs.CStep.{Returned}
 use Rattle.c_meaning.specs.CCall.{host_call}
@@ -77,7 +77,7 @@ module _ (s : Surface) {A B : Type 0} (f : A → B) (after : B) where
       ∙ (ap (λ (o : Outcome). done o (f x)) (sym same) ∙ ap (λ (y : B). done outcome y) (sym h))
 
 -- A call comes to what its function comes to.
-pub call_comes : (it : Loaded) (m : Memory) (s : PublicStruct) (method : PublicMethod) (what : HostCall) (host : Host) (turns : ℕ) (v : Value) (n most : ℕ) (args : List HostArg) (o : Ran Returned)
+pub call_comes : (it : Loaded) (m : Memory) (s : PublicStruct) (method : PublicMethod) (what : HostCall) (host : Host) (turns : ℕ) (v : CValue) (n most : ℕ) (args : List HostArg) (o : Ran Returned)
     → length m ≡ n → most_args it.surface.structs ≡ most → what.args ≡ args → host_call it.program (function_name it.surface s method.name) turns (v ∷ all_values host n (n + most) args) (call_memory host m most args) ≡ o
     → call_of it m s method what host turns v
     ≡ response (λ done. answered_with (answer_of it.program it.surface method.answers done.value) (option_map (λ left. (take n done.memory, left)) (args_left done.memory n (n + most) args host))) o
@@ -92,13 +92,13 @@ call_comes it m s method what host turns v n most args o en em ea e =
     let all : P n most args = subst (λ (k : ℕ). P k most args) en two in
     all e
 
-pub called_with : (it : Loaded) (m : Memory) (s : PublicStruct) (method : PublicMethod) (what : HostCall) (host : Host) (turns : ℕ) (v : Value) (n most : ℕ) (args : List HostArg) (o : Ran Returned) (values : List Value) (mem : Memory)
+pub called_with : (it : Loaded) (m : Memory) (s : PublicStruct) (method : PublicMethod) (what : HostCall) (host : Host) (turns : ℕ) (v : CValue) (n most : ℕ) (args : List HostArg) (o : Ran Returned) (values : List CValue) (mem : Memory)
     → length m ≡ n → most_args it.surface.structs ≡ most → what.args ≡ args → values ≡ v ∷ all_values host n (n + most) args → mem ≡ call_memory host m most args
     → host_call it.program (function_name it.surface s method.name) turns values mem ≡ o
     → call_of it m s method what host turns v
     ≡ response (λ done. answered_with (answer_of it.program it.surface method.answers done.value) (option_map (λ left. (take n done.memory, left)) (args_left done.memory n (n + most) args host))) o
 called_with it m s method what host turns v n most args o values mem en em ea vs is e =
-    let one = subst (λ (xs : List Value). host_call it.program (function_name it.surface s method.name) turns xs mem ≡ o) vs e in
+    let one = subst (λ (xs : List CValue). host_call it.program (function_name it.surface s method.name) turns xs mem ≡ o) vs e in
     call_comes it m s method what host turns v n most args o en em ea (subst (λ (x : Memory). host_call it.program (function_name it.surface s method.name) turns (v ∷ all_values host n (n + most) args) x ≡ o) is one)
 
 pub replies_so : {A : Type 0} (s : Surface) (r q : Response A) (reply : Reply) (after : A) → r ≡ q → Replies (given s (λ (x : A). x) q) reply after → Replies (given s (λ (x : A). x) r) reply after

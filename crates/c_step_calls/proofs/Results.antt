@@ -1,35 +1,35 @@
 -- What a function returns is a value of the type that it declares.
-use Rattle.std.proofs.Common.{◌≡◌, ℕ, zero, suc, ◌^◌, ◌<◌, Bool, true, false, List, [], ◌∷◌, length, Option, Some, None, refl, sym, subst, ap, ◌∙◌, arith, ℤ, pos, negsuc}
-use Rattle.std.specs.Prelude.{if◌then◌else◌, nat_lt, find, option_and_then, option_map, bytes_eq, take}
+use Rattle.std.proofs.Common.{◌≡◌, ℕ, zero, suc, ◌^◌, ◌<◌, Bool, true, false, List, [], ◌∷◌, length, Option, Some, None, refl, subst, arith, ℤ, pos, negsuc}
+use Rattle.std.specs.Prelude.{if◌then◌else◌, nat_lt, option_and_then, bytes_eq}
 use Rattle.wf_num.specs.CArithmetic.{modulo}
-use Rattle.turns.specs.Run.{Next, Go, Turn, End, Out, Fail, Outcome, Got, More, Lost, run, onward, holding}
+use Rattle.turns.specs.Run.{Next, Go, Turn, Outcome, Got, More, Lost, onward, holding}
 use Rattle.turns.specs.Steps.{NextKeeps, AnswersWith}
 use Rattle.turns.proofs.Invariants.{run_keeps}
 use Rattle.c_text.specs.declared.kinds.Linkage.{Linkage}
 use Rattle.c_text.specs.declared.kinds.Linkage.TheVariants.{External, Static, StaticInline}
 use Rattle.c_text.specs.CTree.{TypeTree, ExprTree, Code, finish, nested, empty, assign, call, jump, branch, repeat, select, leave, case_label, default_label, name_label}
-use Rattle.c_meaning.specs.declared.values.Value.{Value}
-use Rattle.c_meaning.specs.declared.values.Value.TheVariants.{Numeric as numeric, Address as address, NullPointer as null_pointer}
+use Rattle.c_meaning.specs.declared.values.CValue.{CValue}
+use Rattle.c_meaning.specs.declared.values.CValue.TheVariants.{Numeric as numeric, Address as address, NullPointer as null_pointer}
 use Rattle.c_meaning.specs.CValues.{whole, holds}
 use Rattle.c_meaning.specs.declared.cells.CellType.{CellType}
 use Rattle.c_meaning.specs.declared.cells.CellType.TheVariants.{U8 as u8, U16 as u16, U32 as u32, U64 as u64, Flag as flag, Pointer as pointer}
 use Rattle.c_meaning.specs.CMemory.{Memory, cell_of, value_of}
 use Rattle.c_meaning.specs.CTypes.{Function, function_named}
-use Rattle.c_meaning.specs.CExprs.{value, place, as_type, cell_type, arg_values, all_some}
+use Rattle.c_meaning.specs.CExprs.{value, place, cell_type, arg_values, all_some}
 use Rattle.c_meaning.specs.CStep.{Continuation, stop, behind, again, Place, at, place_weight, by_name, by_case, by_default, first_of, find as find_label, Returned, Meaning, Running, State, state, weight, surroundings, goes_on, by_test, takes_turn, tested_again, leaps, jumps, enters, switches, kept, goes_back, calls, Callee, memory_move, memory_set, own, callee_of, move_given, set_given, calls_function, returns, result_value, assigned, at_end, step_at, step}
-use Rattle.c_meaning.specs.CCall.{Program, running, initialized, frame_object, without_frame, body_run, started, entered, function_meaning, expression_call, ExprMeaning, call_of, host_call}
-use Rattle.c_step_calls.specs.Kinds.{NumberIs, ValueIs, ResultIs}
+use Rattle.c_meaning.specs.CCall.{Program, running, without_frame, body_run, entered, function_meaning, expression_call, ExprMeaning, call_of, host_call}
+use Rattle.c_step_calls.specs.Kinds.{ValueIs, ResultIs}
 
 left_over : (z : ℤ) (m : ℕ) → 0 < m → modulo z m < m
 left_over (pos n) m h = omega arith
 left_over (negsuc n) m h = omega arith
 
 -- A converted value.
-abbrev OptIs : CellType → Option Value → Type 0
+abbrev OptIs : CellType → Option CValue → Type 0
 OptIs type None = Unit {0}
 OptIs type (Some v) = ValueIs type v
 
-converted_is : (type : CellType) (v : Value) → OptIs type (option_and_then (value_of type) (cell_of type v))
+converted_is : (type : CellType) (v : CValue) → OptIs type (option_and_then (value_of type) (cell_of type v))
 converted_is u8 (numeric n) = left_over (whole n) (2 ^ 8) (omega arith)
 converted_is u16 (numeric n) = left_over (whole n) (2 ^ 16) (omega arith)
 converted_is u32 (numeric n) = left_over (whole n) (2 ^ 32) (omega arith)
@@ -49,12 +49,12 @@ converted_is flag (address p) = tt
 converted_is pointer null_pointer = tt
 converted_is pointer (address p) = tt
 
-result_is : (type : Option TypeTree) (v : Option Value) → ResultIs type (result_value type v)
+result_is : (type : Option TypeTree) (v : Option CValue) → ResultIs type (result_value type v)
 result_is None v = tt
 result_is (Some t) None = tt
 result_is (Some t) (Some v) = by (option_and_then (value_of (cell_type t)) (cell_of (cell_type t) v)) (converted_is (cell_type t) v)
   where
-    by : (o : Option Value) → OptIs (cell_type t) o → ResultIs (Some t) o
+    by : (o : Option CValue) → OptIs (cell_type t) o → ResultIs (Some t) o
     by None h = tt
     by (Some w) h = h
 
@@ -71,7 +71,7 @@ module _ (r : Running) where
   goes_fine rest k None = tt
   goes_fine rest k (Some memory) = tt
 
-  test_fine : (o : Option Value) (met unmet : Next State Returned) → Fine met → Fine unmet → Fine (by_test o met unmet)
+  test_fine : (o : Option CValue) (met unmet : Next State Returned) → Fine met → Fine unmet → Fine (by_test o met unmet)
   test_fine None met unmet h q = tt
   test_fine (Some v) met unmet h q = by (holds v)
     where
@@ -95,7 +95,7 @@ module _ (r : Running) where
   enters_fine None rest k memory = tt
   enters_fine (Some p) rest k memory = tt
 
-  switches_fine : (o : Option Value) (body rest : Code) (k : Continuation) (memory : Memory) → Fine (switches o body rest k memory)
+  switches_fine : (o : Option CValue) (body rest : Code) (k : Continuation) (memory : Memory) → Fine (switches o body rest k memory)
   switches_fine None body rest k memory = tt
   switches_fine (Some (numeric n)) body rest k memory = enters_fine (first_of (find_label (by_case n) body (behind finish rest k)) (find_label by_default body (behind finish rest k))) rest k memory
   switches_fine (Some (address p)) body rest k memory = tt
@@ -119,11 +119,11 @@ module _ (r : Running) where
   holding_fine More on h = tt
   holding_fine Lost on h = tt
 
-  calls_fine : (n : ℕ) (target : Option ExprTree) (meaning : Meaning) (o : Option (List Value)) (rest : Code) (k : Continuation) (memory : Memory) → Fine (calls r n target meaning o rest k memory)
+  calls_fine : (n : ℕ) (target : Option ExprTree) (meaning : Meaning) (o : Option (List CValue)) (rest : Code) (k : Continuation) (memory : Memory) → Fine (calls r n target meaning o rest k memory)
   calls_fine n target meaning None rest k memory = tt
   calls_fine n target meaning (Some given) rest k memory = holding_fine (meaning n given memory) (λ left done. goes_back n left rest k (kept r memory target done)) (λ left done. back_fine n left rest k (kept r memory target done))
 
-  called_fine : (c : Callee) (n : ℕ) (target : Option ExprTree) (name : List ℕ) (given : List (Option Value)) (rest : Code) (k : Continuation) (memory : Memory) → Fine (calls_function c r n target name given rest k memory)
+  called_fine : (c : Callee) (n : ℕ) (target : Option ExprTree) (name : List ℕ) (given : List (Option CValue)) (rest : Code) (k : Continuation) (memory : Memory) → Fine (calls_function c r n target name given rest k memory)
   called_fine memory_move n target name given rest k memory = goes_fine rest k (move_given memory given)
   called_fine memory_set n target name given rest k memory = goes_fine rest k (set_given memory given)
   called_fine own n target name given rest k memory = calls_fine n target (r.callee name) (all_some given) rest k memory
@@ -133,7 +133,7 @@ module _ (r : Running) where
   end_fine n (behind passed rest k) memory = tt
   end_fine n (again test body k) memory = turn_fine n (tested_again r test body k memory) (λ left. test_fine (value (surroundings r memory) test) (Turn left (state body (again test body k) memory)) (Turn left (state finish k memory)) tt tt)
 
-  returns_fine : (n : ℕ) (memory : Memory) (o : Option Value) → ResultIs r.result_type o → Fine (returns n memory o)
+  returns_fine : (n : ℕ) (memory : Memory) (o : Option CValue) → ResultIs r.result_type o → Fine (returns n memory o)
   returns_fine n memory None h = tt
   returns_fine n memory (Some v) h = h
 
@@ -175,14 +175,14 @@ entered_fine type Static (suc n) go h = h n
 entered_fine type External n go h = h n
 entered_fine type StaticInline n go h = h n
 
-function_fine : (p : Program) (f : Function) (e : List ℕ → ExprMeaning) (c : List ℕ → Meaning) (n : ℕ) (given : List Value) (memory : Memory) → EndsAs f.result_type (function_meaning p f e c n given memory)
+function_fine : (p : Program) (f : Function) (e : List ℕ → ExprMeaning) (c : List ℕ → Meaning) (n : ℕ) (given : List CValue) (memory : Memory) → EndsAs f.result_type (function_meaning p f e c n given memory)
 function_fine p f e c n given memory =
     entered_fine f.result_type f.linkage n _ (λ left. without_fine (running p f e c (length memory)) (length memory) _ (body_fine (running p f e c (length memory)) f left _))
 
-abbrev FoundAs : List Function → (name : List ℕ) → Option Value → Type 0
+abbrev FoundAs : List Function → (name : List ℕ) → Option CValue → Type 0
 FoundAs fs name v = (f : Function) × (function_named fs name ≡ Some f) × ResultIs f.result_type v
 
-call_fine : (p : Program) (fs : List Function) (name : List ℕ) (n left : ℕ) (given : List Value) (memory : Memory) (done : Returned) → call_of p fs name n given memory ≡ Got left done → FoundAs fs name done.value
+call_fine : (p : Program) (fs : List Function) (name : List ℕ) (n left : ℕ) (given : List CValue) (memory : Memory) (done : Returned) → call_of p fs name n given memory ≡ Got left done → FoundAs fs name done.value
 call_fine p [] name n left given memory done e = absurd (cc (e))
 call_fine p (f ∷ fs) name n left given memory done e =
     by (bytes_eq f.name name) (λ h. call_fine p fs name n left given memory done h) e
@@ -198,5 +198,5 @@ call_fine p (f ∷ fs) name n left given memory done e =
     by true later q = (f, refl, ends (function_meaning p f (expression_call p fs) (call_of p fs) n given memory) (function_fine p f (expression_call p fs) (call_of p fs) n given memory) q)
     by false later q = later q
 
-pub value_is : (p : Program) (name : List ℕ) (n left : ℕ) (given : List Value) (memory : Memory) (done : Returned) → host_call p name n given memory ≡ Got left done → FoundAs p.functions name done.value
+pub value_is : (p : Program) (name : List ℕ) (n left : ℕ) (given : List CValue) (memory : Memory) (done : Returned) → host_call p name n given memory ≡ Got left done → FoundAs p.functions name done.value
 value_is p name n left given memory done e = call_fine p p.functions name n left given memory done e

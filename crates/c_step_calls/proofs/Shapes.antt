@@ -8,9 +8,8 @@ use Rattle.wf_base.specs.BaseOps.{Buffer}
 use Rattle.wf_base.specs.HostRun.{Host}
 use Rattle.wf_bufs.specs.declared.calls.Arg.{Arg}
 use Rattle.wf_bufs.specs.HostViews.{arg_of}
-use Rattle.c_meaning.specs.declared.values.Value.{Value}
 use Rattle.c_meaning.specs.CMemory.{Object, Memory}
-use Rattle.c_meaning.specs.CRun.{no_buffer, buffer_object, bytes_object, io_object, io_objects, arg_bytes, byte_objects, call_memory, slice_values, arg_values, all_values}
+use Rattle.c_meaning.specs.CRun.{no_buffer, buffer_object, io_object, io_objects, arg_bytes, byte_objects, call_memory, slice_values, arg_values, all_values}
 use Rattle.c_meaning.specs.Typed.{FieldShape, object_shape, shape_of}
 use Rattle.c_step_hosts.specs.Spares.{IsIo, AreIos}
 use Rattle.c_step_hosts.specs.Taking.{HaveShapes}

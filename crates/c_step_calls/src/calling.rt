@@ -21,7 +21,7 @@ ghost use Rattle.c_step_calls.specs.Resting.{IsResting, RestsAgain};
 use crate::ends::end;
 use crate::passing::{lend, pass};
 use crate::room::Room;
-use c_meaning::values::Value;
+use c_meaning::values::CValue;
 use c_step_engine::answers::answer;
 use c_step_engine::hosts::call_by_host;
 use c_step_engine::inits::init_by_host;
@@ -38,7 +38,7 @@ pub struct Called {
     /// What it answers.
     pub kind: AnswerKind,
     /// What is passed for its first parameter.
-    pub receiver: Value,
+    pub receiver: CValue,
     /// The turns that it has.
     pub turns: u64,
 }
@@ -97,7 +97,7 @@ pub fn init_receiver(
     code: &Code,
     statuses: &[Option<StatusId>],
     initialize: Option<usize>,
-    receiver: Value,
+    receiver: CValue,
     turns: u64,
     room: &Room,
     st: &mut Store,
@@ -110,12 +110,9 @@ pub fn init_receiver(
         → AreCoded code.now st.old.frames.items st.old.args.items it.program it.program.functions
         → Replies (given it.surface (λ x. x) (init_of it (memory st.old.mem) s receiver turns)) result (memory st.new.mem) }
 {
-    let at = match initialize {
-        Some(own) => Some(Active {
-            own,
-            frame: room.objects,
-        }),
-        None => None,
-    };
+    let at = initialize.map(|own| Active {
+        own,
+        frame: room.objects,
+    });
     init_by_host(code, at, receiver, statuses, turns, st)
 }

@@ -2,7 +2,7 @@
 
 ghost use Rattle.std.specs.Prelude.{◌≡◌, ℕ, List, [], Some, slice_get};
 ghost use Rattle.turns.specs.Run.{Got};
-ghost use Rattle.c_meaning.specs.declared.values.Value.{Value};
+ghost use Rattle.c_meaning.specs.declared.values.CValue.{CValue};
 ghost use Rattle.c_meaning.specs.CMemory.{Memory};
 ghost use Rattle.c_meaning.specs.CTypes.{Function, function_named};
 ghost use Rattle.c_meaning.specs.CStep.{Returned};
@@ -23,7 +23,7 @@ ghost use Rattle.c_step_calls.specs.Kinds.{ResultIs};
 
 /// What a function returns is a value of the type that it declares.
 pub fn a_value_is_of_its_type()
-    ensures { (p : Program) (name : List ℕ) (n left : ℕ) (values : List Value) (memory : Memory) (done : Returned) → host_call p name n values memory ≡ Got left done
+    ensures { (p : Program) (name : List ℕ) (n left : ℕ) (values : List CValue) (memory : Memory) (done : Returned) → host_call p name n values memory ≡ Got left done
         → (f : Function) × (function_named p.functions name ≡ Some f) × ResultIs f.result_type done.value }
 {}
 
@@ -31,8 +31,8 @@ pub fn a_value_is_of_its_type()
 /// whose text is empty.
 pub fn an_answer_is_of_its_kind()
     ensures call { (items : List ItemTree) (it : Loaded) → HasUnitForm it.surface items → it.program ≡ program_of items → slice_get it.surface.statuses 0 ≡ Some []
-        → (memory : Memory) (k j : ℕ) (s : PublicStruct) (m : PublicMethod) (known : AnswerKind) (called : HostCall) (host : Host) (n : ℕ) (v : Value) (outcome : Outcome) (after : Memory × Host)
+        → (memory : Memory) (k j : ℕ) (s : PublicStruct) (m : PublicMethod) (known : AnswerKind) (called : HostCall) (host : Host) (n : ℕ) (v : CValue) (outcome : Outcome) (after : Memory × Host)
         → struct_numbered it.surface k ≡ Some s → method_numbered j s ≡ Some m → answer_kind_of known ≡ m.answers → given it.surface (λ x. x) (call_of it memory s m called host n v) ≡ done outcome after → FitsAnswer it.surface m.answers outcome }
     ensures init { (items : List ItemTree) (it : Loaded) → HasUnitForm it.surface items → it.program ≡ program_of items → slice_get it.surface.statuses 0 ≡ Some []
-        → (memory : Memory) (s : PublicStruct) (n : ℕ) (v : Value) (outcome : Outcome) (after : Memory) → given it.surface (λ x. x) (init_of it memory s v n) ≡ done outcome after → FitsAnswer it.surface status outcome }
+        → (memory : Memory) (s : PublicStruct) (n : ℕ) (v : CValue) (outcome : Outcome) (after : Memory) → given it.surface (λ x. x) (init_of it memory s v n) ≡ done outcome after → FitsAnswer it.surface status outcome }
 {}

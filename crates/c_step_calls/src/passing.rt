@@ -10,7 +10,7 @@ ghost use Rattle.c_step_hosts.specs.Lending.{AreThere, all_lent};
 ghost use Rattle.c_step_calls.specs.Resting.{AreSpare, TakesSpares};
 
 use crate::room::Spares;
-use c_meaning::values::Value;
+use c_meaning::values::CValue;
 use c_mem::Mem;
 use c_step_hosts::givens::add_all;
 use c_step_hosts::ios::enter_ios;
@@ -19,7 +19,7 @@ use c_step_hosts::taking::Places;
 use wf_bufs::{Arg, Bufs};
 
 /// The first value that is passed; there is room for it.
-fn begin(receiver: Value, given: &mut Vec<Value>)
+fn begin(receiver: CValue, given: &mut Vec<CValue>)
     requires { 0 < vec_capacity given.old }
     ensures values { given.new.items ≡ receiver ∷ [] }
     ensures room { vec_capacity given.old ≤ vec_capacity given.new }
@@ -32,9 +32,9 @@ fn begin(receiver: Value, given: &mut Vec<Value>)
 pub(crate) fn pass(
     args: &[Arg],
     host: &Bufs,
-    receiver: Value,
+    receiver: CValue,
     places: Places,
-    given: &mut Vec<Value>,
+    given: &mut Vec<CValue>,
 )
     requires there { AreThere (length host.now.bufs) (length host.now.arrays) (map arg_of args.now) }
     requires room { length args.now + length args.now < vec_capacity given.old }

@@ -1,6 +1,6 @@
 // What is kept for a host's calls, so that they take no memory.
 
-use c_meaning::values::Value;
+use c_meaning::values::CValue;
 use c_mem::Object;
 
 /// What isn't in memory now.
@@ -28,7 +28,7 @@ pub struct Room {
     /// Objects for what the arguments name.
     pub spares: Spares,
     /// Has room for the values that are passed.
-    pub given: Vec<Value>,
+    pub given: Vec<CValue>,
     /// How many objects stand between calls.
     pub objects: usize,
     /// How many arguments a method has at most.

@@ -7,8 +7,8 @@ use Rattle.wf_text.specs.Surface as kind
 use Rattle.wf_text.specs.Seen as answer
 use Rattle.wf_bufs.specs.declared.outcomes.Outcome.TheVariants.{Status}
 use Rattle.c_meaning.specs.declared.values.Pointer.{Pointer}
-use Rattle.c_meaning.specs.declared.values.Value.{Value}
-use Rattle.c_meaning.specs.declared.values.Value.TheVariants.{Numeric as numeric, Address as address, NullPointer as null_pointer}
+use Rattle.c_meaning.specs.declared.values.CValue.{CValue}
+use Rattle.c_meaning.specs.declared.values.CValue.TheVariants.{Numeric as numeric, Address as address, NullPointer as null_pointer}
 use Rattle.c_meaning.specs.CValues.{to_object}
 use Rattle.c_meaning.specs.CMemory.{Memory}
 use Rattle.c_meaning.specs.CTypes.{Function}
@@ -35,7 +35,7 @@ number_within (f ∷ fs) name k e = by_test (number_within fs name k) (bytes_eq 
 pub found_by_name : (c : CodeView) (frames args : List FrameView) (p : Program) (name : List ℕ) (k : ℕ) → function_number p.functions name ≡ Some k → AreCoded c frames args p p.functions → Found c frames args p p.functions k
 found_by_name c frames args p name k e coded = found c frames args p p.functions k (number_within p.functions name k e) coded
 
-pub called_by_name : (c : CodeView) (frames args : List FrameView) (p : Program) (name : List ℕ) (k n : ℕ) (given : List Value) (memory : Memory) → function_number p.functions name ≡ Some k → (r : Found c frames args p p.functions k)
+pub called_by_name : (c : CodeView) (frames args : List FrameView) (p : Program) (name : List ℕ) (k n : ℕ) (given : List CValue) (memory : Memory) → function_number p.functions name ≡ Some k → (r : Found c frames args p p.functions k)
     → host_call p name n given memory ≡ function_meaning p r.it (expression_call p r.front) (call_of p r.front) n given memory
 called_by_name c frames args p name k n given memory e r =
     call_numbered p p.functions name n given memory
@@ -60,7 +60,7 @@ first_number : (xs : List (List ℕ)) → slice_get xs 0 ≡ Some [] → number_
 first_number [] e = refl
 first_number (x ∷ xs) e = let s : x ≡ [] = cc (e) in ap (λ (y : List ℕ). if bytes_eq y [] then 0 else suc (number_of xs [])) s
 
-pub status_answered : (p : Program) (surface : Surface) (table : List (Option StatusId)) (v : Value) → slice_get surface.statuses 0 ≡ Some [] → AreStatuses p surface table
+pub status_answered : (p : Program) (surface : Surface) (table : List (Option StatusId)) (v : CValue) → slice_get surface.statuses 0 ≡ Some [] → AreStatuses p surface table
     → status_in table v ≡ option_map (outcome_for surface) (answer_of p surface kind.status (Some v))
 status_answered p surface table null_pointer ok h = ap (λ (n : ℕ). Some (Status (record { 0 = n }))) (sym (first_number surface.statuses ok))
 status_answered p surface table (address q) ok h = status_there p surface table q h

@@ -3,7 +3,7 @@ use Rattle.std.proofs.Common.{◌≡◌, ℕ, List, [], ◌∷◌, length, Optio
 use Rattle.turns.specs.Run.{Outcome as RunOutcome, Lost}
 use Rattle.wf_text.specs.Surface.{PublicStruct}
 use Rattle.wf_bufs.specs.EngineLaw.{Gives}
-use Rattle.c_meaning.specs.declared.values.Value.{Value}
+use Rattle.c_meaning.specs.declared.values.CValue.{CValue}
 use Rattle.c_meaning.specs.CMemory.{Memory}
 use Rattle.c_meaning.specs.CStep.{Returned}
 use Rattle.c_meaning.specs.CCall.{Program, host_call}
@@ -15,10 +15,10 @@ use Rattle.c_step_text.proofs.Numbers.{call_numbered}
 use Rattle.c_step_engine.specs.Engines.{given}
 
 -- No function has the name.
-pub no_function : (p : Program) (name : List ℕ) (n : ℕ) (values : List Value) (m : Memory) → None ≡ function_number p.functions name → host_call p name n values m ≡ Lost
+pub no_function : (p : Program) (name : List ℕ) (n : ℕ) (values : List CValue) (m : Memory) → None ≡ function_number p.functions name → host_call p name n values m ≡ Lost
 no_function p name n values m e = call_numbered p p.functions name n values m ∙ ap (λ (o : Option ℕ). meaning_by (meaning_at p p.functions) o n values m) (sym e)
 
-module _ (it : Loaded) (m : Memory) (s : PublicStruct) (receiver : Value) (n : ℕ) where
+module _ (it : Loaded) (m : Memory) (s : PublicStruct) (receiver : CValue) (n : ℕ) where
   abbrev pub gives : RunOutcome Returned → Gives Memory
   gives o = given it.surface (λ x. x) (response (init_ended it (length m)) o)
 

@@ -17,8 +17,8 @@ use Rattle.wf_bufs.specs.EngineLaw.{response_of, steps_of}
 use Rattle.c_text.specs.CTree.{ItemTree}
 use Rattle.c_text.proofs.Names.{bytes_eq-true, bytes_eq-refl}
 use Rattle.c_meaning.specs.declared.values.Pointer.{Pointer}
-use Rattle.c_meaning.specs.declared.values.Value.{Value}
-use Rattle.c_meaning.specs.declared.values.Value.TheVariants.{Numeric as numeric, Address as address, NullPointer as null_pointer}
+use Rattle.c_meaning.specs.declared.values.CValue.{CValue}
+use Rattle.c_meaning.specs.declared.values.CValue.TheVariants.{Numeric as numeric, Address as address, NullPointer as null_pointer}
 use Rattle.c_meaning.specs.CMemory.{Memory}
 use Rattle.c_meaning.specs.CTypes.{TextDecl}
 use Rattle.c_meaning.specs.CStep.{Returned}
@@ -90,7 +90,7 @@ module _ (s : Surface) (ok : slice_get s.statuses 0 ≡ Some []) where
       by_test true o = by_text o
       by_test false o = tt
 
-  known_answer : (p : Program) (k : AnswerKind) (v : Option Value) → AnswerKnown (answer_of p s k v)
+  known_answer : (p : Program) (k : AnswerKind) (v : Option CValue) → AnswerKnown (answer_of p s k v)
   known_answer p kind.status None = tt
   known_answer p kind.status (Some null_pointer) = known_status [] (empty_first s.statuses ok)
   known_answer p kind.status (Some (address q)) = known_address p q

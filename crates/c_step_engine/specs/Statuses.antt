@@ -5,8 +5,8 @@ use Rattle.wf_text.specs.Surface.{Surface}
 use Rattle.wf_bufs.specs.declared.outcomes.Outcome.{Outcome}
 use Rattle.wf_bufs.specs.declared.outcomes.Outcome.TheVariants.{Status}
 use Rattle.c_meaning.specs.declared.values.Pointer.{Pointer}
-use Rattle.c_meaning.specs.declared.values.Value.{Value}
-use Rattle.c_meaning.specs.declared.values.Value.TheVariants.{Numeric as numeric, Address as address, NullPointer as null_pointer}
+use Rattle.c_meaning.specs.declared.values.CValue.{CValue}
+use Rattle.c_meaning.specs.declared.values.CValue.TheVariants.{Numeric as numeric, Address as address, NullPointer as null_pointer}
 use Rattle.c_meaning.specs.CValues.{to_object}
 use Rattle.c_meaning.specs.CCall.{Program}
 use Rattle.c_meaning.specs.CRun.{status_text}
@@ -21,7 +21,7 @@ abbrev pub AreStatuses : Program → Surface → List (Option StatusId) → Type
 AreStatuses p surface table = (k : ℕ) → option_and_then (λ it. it) (slice_get table k) ≡ option_map (λ text. record { 0 = number_of surface.statuses text }) (status_text p surface (to_object k))
 
 -- A status that was returned.
-abbrev pub status_in : List (Option StatusId) → Value → Option Outcome
+abbrev pub status_in : List (Option StatusId) → CValue → Option Outcome
 status_in table null_pointer = Some (Status (record { 0 = 0 }))
 status_in table (address q) = option_map (λ id. Status id) (status_at table q)
 status_in table (numeric n) = None

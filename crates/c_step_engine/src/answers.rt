@@ -1,6 +1,6 @@
 // What an init or a call answers, by the kind of its answer.
 
-ghost use Rattle.std.specs.Prelude.{◌≡◌, ℕ, [], Some, option_map, slice_get};
+ghost use Rattle.std.specs.Prelude.{◌≡◌, [], Some, option_map, slice_get};
 ghost use Rattle.wf_text.specs.Surface.{Surface};
 ghost use Rattle.wf_bufs.specs.SurfaceViews.{answer_kind_of};
 ghost use Rattle.c_meaning.specs.CValues.{is_nonzero};
@@ -9,7 +9,7 @@ ghost use Rattle.c_meaning.specs.CRun.{answer_of};
 ghost use Rattle.c_step_engine.specs.Engines.{outcome_for};
 ghost use Rattle.c_step_engine.specs.Statuses.{AreStatuses, status_in, status_at};
 
-use c_meaning::values::{Number, Pointer, Value};
+use c_meaning::values::{CValue, Number, Pointer};
 use wf_bufs::{AnswerKind, Outcome};
 use wf_text::StatusId;
 
@@ -34,20 +34,20 @@ fn is_not_zero(n: Number) -> bool
 }
 
 /// A status: ok, which is the first one, for a null pointer.
-fn status(v: Value, statuses: &[Option<StatusId>]) -> Option<Outcome>
+fn status(v: CValue, statuses: &[Option<StatusId>]) -> Option<Outcome>
     ensures { result ≡ status_in statuses.now v }
 {
     match v {
-        Value::NullPointer => Some(Outcome::Status(StatusId(0))),
-        Value::Address(q) => Some(Outcome::Status(status_of(q, statuses)?)),
-        Value::Numeric(_) => None,
+        CValue::NullPointer => Some(Outcome::Status(StatusId(0))),
+        CValue::Address(q) => Some(Outcome::Status(status_of(q, statuses)?)),
+        CValue::Numeric(_) => None,
     }
 }
 
 /// What a function of the text has answered; none where that isn't defined.
 pub fn answer(
     kind: AnswerKind,
-    value: Option<Value>,
+    value: Option<CValue>,
     statuses: &[Option<StatusId>],
 ) -> Option<Outcome>
     ensures { (p : Program) (surface : Surface) → slice_get surface.statuses 0 ≡ Some [] → AreStatuses p surface statuses.now
@@ -57,12 +57,12 @@ pub fn answer(
         AnswerKind::Nothing => Some(Outcome::Nothing),
         AnswerKind::Status => status(value?, statuses),
         AnswerKind::Number(_) => match value {
-            Some(Value::Numeric(n)) => Some(Outcome::Num(n.bits)),
-            Some(Value::Address(_)) | Some(Value::NullPointer) | None => None,
+            Some(CValue::Numeric(n)) => Some(Outcome::Num(n.bits)),
+            Some(CValue::Address(_)) | Some(CValue::NullPointer) | None => None,
         },
         AnswerKind::Flag => match value {
-            Some(Value::Numeric(n)) => Some(Outcome::Flag(is_not_zero(n))),
-            Some(Value::Address(_)) | Some(Value::NullPointer) | None => None,
+            Some(CValue::Numeric(n)) => Some(Outcome::Flag(is_not_zero(n))),
+            Some(CValue::Address(_)) | Some(CValue::NullPointer) | None => None,
         },
     }
 }

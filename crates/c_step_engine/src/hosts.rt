@@ -9,12 +9,12 @@ ghost use Rattle.c_step_run.specs.Coding.{AreCoded};
 ghost use Rattle.c_step_run.specs.Meaning.{OnGot, outcome_of};
 ghost use Rattle.c_step_run.specs.Ready.{CanEnter, KeepsShape};
 
-use c_meaning::values::Value;
+use c_meaning::values::CValue;
 use c_step_exprs::Stack;
 use c_step_run::{Active, Code, Ended, Store};
 
 /// Puts values on an empty stack, the last one on top.
-fn put_all(given: &[Value], stack: &mut Stack)
+fn put_all(given: &[CValue], stack: &mut Stack)
     requires empty { on_stack stack.old ≡ [] }
     requires room { length given.now ≤ most stack.old }
     ensures values { on_stack stack.new ≡ reverse given.now }
@@ -27,7 +27,7 @@ fn put_all(given: &[Value], stack: &mut Stack)
 
 /// Calls the function with a number with these arguments, within so many turns. The call's object is gone when it has
 /// returned.
-pub fn call_by_host(code: &Code, at: Active, given: &[Value], turns: u64, st: &mut Store) -> Ended
+pub fn call_by_host(code: &Code, at: Active, given: &[CValue], turns: u64, st: &mut Store) -> Ended
     requires ready { CanEnter code.now at st.old }
     requires empty { on_stack st.old.stack ≡ [] }
     requires room { length given.now ≤ most st.old.stack }

@@ -14,7 +14,7 @@ ghost use Rattle.c_step_engine.specs.Statuses.{AreStatuses};
 
 use crate::answers::answer;
 use crate::hosts::call_by_host;
-use c_meaning::values::Value;
+use c_meaning::values::CValue;
 use c_step_run::{Active, Code, Ended, Store};
 use wf_bufs::{AnswerKind, Reply};
 use wf_text::StatusId;
@@ -24,7 +24,7 @@ use wf_text::StatusId;
 pub fn init_by_host(
     code: &Code,
     at: Option<Active>,
-    receiver: Value,
+    receiver: CValue,
     statuses: &[Option<StatusId>],
     turns: u64,
     st: &mut Store,

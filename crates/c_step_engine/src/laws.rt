@@ -1,6 +1,6 @@
 // The law of an engine of a text. It is the contract of a function that does nothing.
 
-ghost use Rattle.std.specs.Prelude.{◌≡◌, ℕ, List, [], Some, slice_get};
+ghost use Rattle.std.specs.Prelude.{◌≡◌, List, [], Some, slice_get};
 ghost use Rattle.wf_text.specs.Surface.{Surface};
 ghost use Rattle.wf_text.specs.HostActions.{HostAction, Receiver};
 ghost use Rattle.wf_base.specs.BaseOps.{Buffer};

@@ -33,10 +33,8 @@ fn number_at(statuses: &[Vec<u8>], i: usize) -> usize
 fn status(number: usize) -> Result<StatusId, NoMemory>
     ensures { IfOk result (λ it. it.0 ≡ number) }
 {
-    match u32::try_from(number) {
-        Ok(n) => Ok(StatusId(n)),
-        Err(_) => Err(NoMemory),
-    }
+    let n = u32::try_from(number).map_err(|_| NoMemory)?;
+    Ok(StatusId(n))
 }
 
 /// The statuses but the first, by their texts.

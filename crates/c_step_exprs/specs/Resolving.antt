@@ -6,7 +6,7 @@ use Rattle.c_text.specs.declared.kinds.CUnary.{CUnary}
 use Rattle.c_text.specs.declared.kinds.CUnary.TheVariants.{Not, Complement, Address}
 use Rattle.c_text.specs.CTree.{ExprTree, number, variable, member, element, pointed, operation, unary, cast, choice, called, Operands, no_operand, operand, Args, no_arg, expr_arg, sizeof_arg}
 use Rattle.c_meaning.specs.CValues.{literal_number}
-use Rattle.c_meaning.specs.CTypes.{Function, Scope, ExprType, numbers, points_to, zero_literal, Held, one, fixed, many, inner, character, characters, type_of, held_of, variable_held, member_held, element_held, pointed_held, choice_type}
+use Rattle.c_meaning.specs.CTypes.{Function, CScope, ExprType, numbers, points_to, zero_literal, Held, one, fixed, many, inner, character, characters, type_of, held_of, variable_held, member_held, element_held, pointed_held, choice_type}
 use Rattle.c_meaning.specs.CExprs.{cell_type, field_number, is_object_pointer, Combination, conjunction, disjunction, addition, other, combination_of}
 use Rattle.c_step_exprs.specs.declared.instrs.Instr.{Instr}
 use Rattle.c_step_exprs.specs.declared.instrs.Instr.TheVariants as does
@@ -90,7 +90,7 @@ unary_code Address value place held = place ++ address_code held
 
 abbrev mutual
   -- The instructions of an expression, which put its value.
-  pub value_code : Scope → ExprTree → List Instr
+  pub value_code : CScope → ExprTree → List Instr
   value_code scope (number n) = does.Put (put.Number (literal_number n)) ∷ []
   value_code scope (variable name) = variable_code (variable_held scope name) (position (λ it. bytes_eq it.name name) scope.names) (position (λ it. bytes_eq it.name name) scope.texts)
   value_code scope (member of field) = value_code scope of ++ (field_code (field_number scope field (type_of scope of)) ++ held_code (member_held scope field (type_of scope of)))
@@ -104,7 +104,7 @@ abbrev mutual
   value_code scope (called function given) = args_code scope given ++ call_code (function_number scope.functions function) (arg_count given)
 
   -- The instructions of an lvalue, which put its place.
-  pub place_code : Scope → ExprTree → List Instr
+  pub place_code : CScope → ExprTree → List Instr
   place_code scope (variable name) = named_code (position (λ it. bytes_eq it.name name) scope.names) (position (λ it. bytes_eq it.name name) scope.texts)
   place_code scope (member of field) = value_code scope of ++ field_code (field_number scope field (type_of scope of))
   place_code scope (element of index) = value_code scope of ++ (value_code scope index ++ does.Join join.Element ∷ [])
@@ -117,12 +117,12 @@ abbrev mutual
   place_code scope (called function given) = does.Stuck ∷ []
 
   -- The operators and operands that repeat.
-  pub operands_code : Scope → Combination → (whole_object : Bool) → COp → Operands → List Instr
+  pub operands_code : CScope → Combination → (whole_object : Bool) → COp → Operands → List Instr
   operands_code scope c o op no_operand = []
   operands_code scope c o op (operand e others) = operator_code c o op (value_code scope e) ++ operands_code scope c o op others
 
   -- The arguments of a call, in order.
-  pub args_code : Scope → Args → List Instr
+  pub args_code : CScope → Args → List Instr
   args_code scope no_arg = []
   args_code scope (expr_arg e others) = value_code scope e ++ args_code scope others
   args_code scope (sizeof_arg name others) = does.Stuck ∷ args_code scope others

@@ -1,6 +1,6 @@
 -- Where a run of instructions comes to, as far as calls are made by who runs it.
 use Rattle.std.specs.Prelude.{◌≡◌, ℕ, ◌+◌, ◌≤◌, true, List, drop, slice_get, Option, Some, None, option_map}
-use Rattle.c_meaning.specs.declared.values.Value.{Value}
+use Rattle.c_meaning.specs.declared.values.CValue.{CValue}
 use Rattle.c_step_exprs.specs.declared.instrs.Instr.{Instr}
 use Rattle.c_step_exprs.specs.declared.running.Stop.{Stop}
 use Rattle.c_step_exprs.specs.declared.running.Stop.TheVariants.{End, Call, Undefined}
@@ -8,7 +8,7 @@ use Rattle.c_step_exprs.specs.Instrs.{Around, exec}
 use Rattle.c_step_exprs.specs.Values.{is_call}
 
 -- The run from an instruction on.
-abbrev pub run_from : Around → List Instr → (at : ℕ) → List Value → Option (List Value)
+abbrev pub run_from : Around → List Instr → (at : ℕ) → List CValue → Option (List CValue)
 run_from a code at stack = exec a 0 (drop at code) stack
 
 -- The instruction with this number is there, and is a call.
@@ -17,7 +17,7 @@ IsCallAt code at = option_map is_call (slice_get code at) ≡ Some true
 
 -- At the end of the code this stack is what the run gives; at a call the run goes on from there with this stack; and else
 -- it gives none.
-abbrev pub StopsAt : Around → List Instr → (given : Option (List Value)) → Stop → (now : List Value) → Type 0
+abbrev pub StopsAt : Around → List Instr → (given : Option (List CValue)) → Stop → (now : List CValue) → Type 0
 StopsAt a code given End now = given ≡ Some now
 StopsAt a code given (Call at) now = (given ≡ run_from a code at now) × IsCallAt code at
 StopsAt a code given Undefined now = given ≡ None

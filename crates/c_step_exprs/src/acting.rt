@@ -1,10 +1,10 @@
 // What one instruction does to the stack.
 
 ghost use Rattle.std.specs.Prelude.{◌≡◌, ◌<◌, ◌≤◌, suc, length, false, option_map, ℕ, List, Option, ◌^◌, ◌≤ℤ◌, ◌<ℤ◌, pos, negsuc};
-ghost use Rattle.c_meaning.specs.declared.values.Value.{Value as AnyValue};
+ghost use Rattle.c_meaning.specs.declared.values.CValue.{CValue as AnyValue};
 ghost use Rattle.c_meaning.specs.CExprs.{pointed_place, sum_value, complement_of, as_expr_type};
 ghost use Rattle.c_mem.specs.MemoryViews.{memory};
-ghost use Rattle.c_step_exprs.specs.Instrs.{put_value, turned, joined, tested, element_of, field_of, loaded_from, cell_there, object_inside, goes_on, pushed, by_one, by_two, by_test, step, as_pointer};
+ghost use Rattle.c_step_exprs.specs.Instrs.{put_value, turned, joined, tested, element_of, field_of, cell_there, object_inside, goes_on, pushed, by_one, by_two, by_test, step, as_pointer};
 ghost use Rattle.c_meaning.specs.CValues.{holds};
 ghost use Rattle.c_step_exprs.specs.Values.{placed, is_call};
 ghost use Rattle.c_step_exprs.specs.Stacks.{on_stack, most};
@@ -15,23 +15,23 @@ use crate::instrs::{Instr, Join, Put, Test, Turn};
 use crate::numbers::{complement, convert, operate, truth_number, whole_of};
 use crate::places::{cast, operate_values, value_holds, value_in};
 use crate::stack::Stack;
-use c_meaning::values::{Pointer, Value};
+use c_meaning::values::{CValue, Pointer};
 use c_mem::Mem;
 use c_text::COp;
 use wf_num::CTy;
 
 /// The pointer that a value is, where it is one and not null.
-fn pointer_in(v: Value) -> Option<Pointer>
+fn pointer_in(v: CValue) -> Option<Pointer>
     ensures { result ≡ pointed_place (Some v) }
 {
     match v {
-        Value::Address(p) => Some(p),
-        Value::Numeric(_) | Value::NullPointer => None,
+        CValue::Address(p) => Some(p),
+        CValue::Numeric(_) | CValue::NullPointer => None,
     }
 }
 
 /// The value of the cell that a pointer names.
-fn load_value(mem: &Mem, p: Pointer) -> Option<Value>
+fn load_value(mem: &Mem, p: Pointer) -> Option<CValue>
     ensures { result ≡ loaded (memory mem.now) p }
 {
     let (ty, cell) = mem.cell(p)?;
@@ -39,23 +39,23 @@ fn load_value(mem: &Mem, p: Pointer) -> Option<Value>
 }
 
 /// The pointer to a field of the object that a value points to.
-fn field_pointer(field: usize, v: Value) -> Option<Value>
+fn field_pointer(field: usize, v: CValue) -> Option<CValue>
     ensures { result ≡ field_of field v }
 {
     let p = pointer_in(v)?;
     if p.index != 0 {
         return None;
     }
-    Some(Value::Address(Pointer { field, ..p }))
+    Some(CValue::Address(Pointer { field, ..p }))
 }
 
 /// The pointer to the object inside the field that a value points to.
-fn inside_pointer(mem: &Mem, v: Value) -> Option<Value>
+fn inside_pointer(mem: &Mem, v: CValue) -> Option<CValue>
     ensures { result ≡ object_inside (memory mem.now) v }
 {
     let p = pointer_in(v)?;
     let object = mem.part(p.object, p.field)?;
-    Some(Value::Address(Pointer {
+    Some(CValue::Address(Pointer {
         object,
         field: 0,
         index: 0,
@@ -63,22 +63,22 @@ fn inside_pointer(mem: &Mem, v: Value) -> Option<Value>
 }
 
 /// A pointer to a cell that is there.
-fn cell_pointer(mem: &Mem, v: Value) -> Option<Value>
+fn cell_pointer(mem: &Mem, v: CValue) -> Option<CValue>
     ensures { result ≡ cell_there (memory mem.now) v }
 {
     let p = pointer_in(v)?;
     let _there = mem.cell(p)?;
-    Some(Value::Address(p))
+    Some(CValue::Address(p))
 }
 
 /// The pointer to an element.
-fn element_pointer(mem: &Mem, first: Value, second: Value) -> Option<Value>
+fn element_pointer(mem: &Mem, first: CValue, second: CValue) -> Option<CValue>
     ensures { result ≡ element_of (memory mem.now) first second }
 {
     match (first, second) {
-        (Value::Address(p), Value::Numeric(n)) => {
+        (CValue::Address(p), CValue::Numeric(n)) => {
             let moved = mem.offset(p, whole_of(n))?;
-            Some(Value::Address(moved))
+            Some(CValue::Address(moved))
         }
         (_, _) => None,
     }
@@ -99,39 +99,39 @@ fn move_object(p: Pointer, by: i128) -> Option<Pointer>
 }
 
 /// `first + second` (6.5.6).
-fn add_values(mem: &Mem, whole_object: bool, first: Value, second: Value) -> Option<Value>
+fn add_values(mem: &Mem, whole_object: bool, first: CValue, second: CValue) -> Option<CValue>
     ensures { result ≡ sum_value (memory mem.now) whole_object first second }
 {
     match (first, second) {
-        (Value::Numeric(a), Value::Numeric(b)) => {
+        (CValue::Numeric(a), CValue::Numeric(b)) => {
             let sum = operate(COp::Add, a, b)?;
-            Some(Value::Numeric(sum))
+            Some(CValue::Numeric(sum))
         }
-        (Value::Address(p), Value::Numeric(n)) => {
+        (CValue::Address(p), CValue::Numeric(n)) => {
             let by = whole_of(n);
             let moved = if whole_object {
                 move_object(p, by)?
             } else {
                 mem.offset(p, by)?
             };
-            Some(Value::Address(moved))
+            Some(CValue::Address(moved))
         }
         (_, _) => None,
     }
 }
 
 /// What is put.
-fn value_put(it: Put, mem: &Mem, frame: usize) -> Option<Value>
+fn value_put(it: Put, mem: &Mem, frame: usize) -> Option<CValue>
     ensures { (called : ℕ → List AnyValue → Option AnyValue) → result ≡ put_value (placed frame (memory mem.now) called) it }
 {
     match it {
-        Put::Number(n) => Some(Value::Numeric(n)),
-        Put::Text(object) => Some(Value::Address(Pointer {
+        Put::Number(n) => Some(CValue::Numeric(n)),
+        Put::Text(object) => Some(CValue::Address(Pointer {
             object,
             field: 0,
             index: 0,
         })),
-        Put::Local(field) => Some(Value::Address(Pointer {
+        Put::Local(field) => Some(CValue::Address(Pointer {
             object: frame,
             field,
             index: 0,
@@ -148,44 +148,44 @@ fn value_put(it: Put, mem: &Mem, frame: usize) -> Option<Value>
 }
 
 /// `~` of a value.
-fn complement_value(v: Value) -> Option<Value>
+fn complement_value(v: CValue) -> Option<CValue>
     ensures { result ≡ complement_of v }
 {
     match v {
-        Value::Numeric(n) => Some(Value::Numeric(complement(n))),
-        Value::Address(_) | Value::NullPointer => None,
+        CValue::Numeric(n) => Some(CValue::Numeric(complement(n))),
+        CValue::Address(_) | CValue::NullPointer => None,
     }
 }
 
 /// A number as one of a type; a pointer stays.
-fn as_number(ty: CTy, v: Value) -> Value
+fn as_number(ty: CTy, v: CValue) -> CValue
     ensures { result ≡ as_expr_type (numbers ty) v }
 {
     match v {
-        Value::Numeric(n) => Value::Numeric(convert(ty, n)),
-        Value::Address(_) | Value::NullPointer => v,
+        CValue::Numeric(n) => CValue::Numeric(convert(ty, n)),
+        CValue::Address(_) | CValue::NullPointer => v,
     }
 }
 
 /// A null pointer in place of a number; a pointer stays.
-fn pointer_for(v: Value) -> Value
+fn pointer_for(v: CValue) -> CValue
     ensures { result ≡ as_pointer v }
 {
     match v {
-        Value::Numeric(_) => Value::NullPointer,
-        Value::Address(_) | Value::NullPointer => v,
+        CValue::Numeric(_) => CValue::NullPointer,
+        CValue::Address(_) | CValue::NullPointer => v,
     }
 }
 
 /// What a value becomes.
-fn turn_value(it: Turn, mem: &Mem, v: Value) -> Option<Value>
+fn turn_value(it: Turn, mem: &Mem, v: CValue) -> Option<CValue>
     ensures { result ≡ turned (memory mem.now) it v }
 {
     match it {
         Turn::Field(field) => field_pointer(field, v),
         Turn::Place => {
             let p = pointer_in(v)?;
-            Some(Value::Address(p))
+            Some(CValue::Address(p))
         }
         Turn::Load => {
             let p = pointer_in(v)?;
@@ -193,17 +193,17 @@ fn turn_value(it: Turn, mem: &Mem, v: Value) -> Option<Value>
         }
         Turn::Cell => cell_pointer(mem, v),
         Turn::Inside => inside_pointer(mem, v),
-        Turn::Not => Some(Value::Numeric(truth_number(!value_holds(v)))),
+        Turn::Not => Some(CValue::Numeric(truth_number(!value_holds(v)))),
         Turn::Complement => complement_value(v),
         Turn::Cast(ty) => cast(ty, v),
-        Turn::Truth => Some(Value::Numeric(truth_number(value_holds(v)))),
+        Turn::Truth => Some(CValue::Numeric(truth_number(value_holds(v)))),
         Turn::AsNumber(ty) => Some(as_number(ty, v)),
         Turn::AsPointer => Some(pointer_for(v)),
     }
 }
 
 /// What two values become.
-fn join_values(it: Join, mem: &Mem, first: Value, second: Value) -> Option<Value>
+fn join_values(it: Join, mem: &Mem, first: CValue, second: CValue) -> Option<CValue>
     ensures { result ≡ joined (memory mem.now) it first second }
 {
     match it {
@@ -264,11 +264,11 @@ fn test(it: Test, count: usize, stack: &mut Stack) -> Option<usize>
         (Test::And, true) | (Test::Or, false) | (Test::Unless, true) => Some(0),
         (Test::Unless, false) => Some(count),
         (Test::And, false) => {
-            stack.push(Value::Numeric(truth_number(false)));
+            stack.push(CValue::Numeric(truth_number(false)));
             Some(count)
         }
         (Test::Or, true) => {
-            stack.push(Value::Numeric(truth_number(true)));
+            stack.push(CValue::Numeric(truth_number(true)));
             Some(count)
         }
     }

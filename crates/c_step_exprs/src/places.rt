@@ -8,18 +8,18 @@ ghost use Rattle.c_step_exprs.specs.Instrs.{as_cell};
 
 use crate::numbers::{is_not_zero, operate, truth_number, whole_of};
 use c_meaning::cells::{Cell, CellType};
-use c_meaning::values::{Number, Pointer, Value};
+use c_meaning::values::{CValue, Number, Pointer};
 use c_text::COp;
 use wf_num::CTy;
 
 /// Whether a value isn't 0 or null (6.8.4.1p2).
-pub fn value_holds(v: Value) -> bool
+pub fn value_holds(v: CValue) -> bool
     ensures { result ≡ holds v }
 {
     match v {
-        Value::Numeric(n) => is_not_zero(n),
-        Value::Address(_) => true,
-        Value::NullPointer => false,
+        CValue::Numeric(n) => is_not_zero(n),
+        CValue::Address(_) => true,
+        CValue::NullPointer => false,
     }
 }
 
@@ -31,18 +31,18 @@ pub fn is_same_pointer(p: Pointer, q: Pointer) -> bool
 }
 
 /// The same where either may be null (6.5.9p6).
-fn is_same_place(v: Value, w: Value) -> bool
+fn is_same_place(v: CValue, w: CValue) -> bool
     ensures { result ≡ same_place v w }
 {
     match (v, w) {
-        (Value::Address(p), Value::Address(q)) => is_same_pointer(p, q),
-        (Value::Address(_), _) | (_, Value::Address(_)) => false,
+        (CValue::Address(p), CValue::Address(q)) => is_same_pointer(p, q),
+        (CValue::Address(_), _) | (_, CValue::Address(_)) => false,
         (_, _) => true,
     }
 }
 
 /// `v op w` of pointers: only `==` and `!=` are defined.
-fn compare_places(op: COp, v: Value, w: Value) -> Option<Number>
+fn compare_places(op: COp, v: CValue, w: CValue) -> Option<Number>
     ensures { result ≡ compared_places op v w }
 {
     match op {
@@ -68,55 +68,57 @@ fn compare_places(op: COp, v: Value, w: Value) -> Option<Number>
 }
 
 /// `v op w` for every operator but `+`, `&&` and `||`; None where that is undefined.
-pub(crate) fn operate_values(op: COp, v: Value, w: Value) -> Option<Value>
+pub(crate) fn operate_values(op: COp, v: CValue, w: CValue) -> Option<CValue>
     ensures { result ≡ other_value op v w }
 {
     let number = match (v, w) {
-        (Value::Numeric(a), Value::Numeric(b)) => operate(op, a, b)?,
+        (CValue::Numeric(a), CValue::Numeric(b)) => operate(op, a, b)?,
         (_, _) => compare_places(op, v, w)?,
     };
-    Some(Value::Numeric(number))
+    Some(CValue::Numeric(number))
 }
 
 /// What a cell of a type holds once a value is assigned to it (6.5.16.1p2).
-pub fn cell_for(ty: CellType, v: Value) -> Option<Cell>
+pub fn cell_for(ty: CellType, v: CValue) -> Option<Cell>
     ensures { result ≡ cell_of ty v }
 {
     match (ty, v) {
-        (CellType::U8, Value::Numeric(n)) => Some(Cell::Num(whole_of(n).rem_euclid(1 << 8) as u64)),
-        (CellType::U16, Value::Numeric(n)) => Some(Cell::Num(
+        (CellType::U8, CValue::Numeric(n)) => Some(Cell::Num(
+            whole_of(n).rem_euclid(1 << 8) as u64,
+        )),
+        (CellType::U16, CValue::Numeric(n)) => Some(Cell::Num(
             whole_of(n).rem_euclid(1 << 16) as u64,
         )),
-        (CellType::U32, Value::Numeric(n)) => Some(Cell::Num(
+        (CellType::U32, CValue::Numeric(n)) => Some(Cell::Num(
             whole_of(n).rem_euclid(1 << 32) as u64,
         )),
-        (CellType::U64, Value::Numeric(n)) => Some(Cell::Num(
+        (CellType::U64, CValue::Numeric(n)) => Some(Cell::Num(
             whole_of(n).rem_euclid(1 << 64) as u64,
         )),
-        (CellType::Flag, Value::Numeric(n)) => Some(Cell::Num(truth_number(is_not_zero(n)).bits)),
-        (CellType::Pointer, Value::Numeric(_) | Value::NullPointer) => Some(Cell::Null),
-        (CellType::Pointer, Value::Address(p)) => Some(Cell::At(p)),
+        (CellType::Flag, CValue::Numeric(n)) => Some(Cell::Num(truth_number(is_not_zero(n)).bits)),
+        (CellType::Pointer, CValue::Numeric(_) | CValue::NullPointer) => Some(Cell::Null),
+        (CellType::Pointer, CValue::Address(p)) => Some(Cell::At(p)),
         (_, _) => None,
     }
 }
 
 /// The value of a cell, promoted (6.3.1.1p2).
-pub(crate) fn value_in(ty: CellType, cell: Cell) -> Option<Value>
+pub(crate) fn value_in(ty: CellType, cell: Cell) -> Option<CValue>
     ensures { result ≡ value_of ty cell }
 {
     match (ty, cell) {
-        (CellType::Pointer, Cell::Null) => Some(Value::NullPointer),
-        (CellType::Pointer, Cell::At(p)) => Some(Value::Address(p)),
+        (CellType::Pointer, Cell::Null) => Some(CValue::NullPointer),
+        (CellType::Pointer, Cell::At(p)) => Some(CValue::Address(p)),
         (CellType::Pointer, _) => None,
-        (CellType::U32, Cell::Num(bits)) => Some(Value::Numeric(Number { ty: CTy::U32, bits })),
-        (CellType::U64, Cell::Num(bits)) => Some(Value::Numeric(Number { ty: CTy::U64, bits })),
-        (_, Cell::Num(bits)) => Some(Value::Numeric(Number { ty: CTy::Int, bits })),
+        (CellType::U32, Cell::Num(bits)) => Some(CValue::Numeric(Number { ty: CTy::U32, bits })),
+        (CellType::U64, Cell::Num(bits)) => Some(CValue::Numeric(Number { ty: CTy::U64, bits })),
+        (_, Cell::Num(bits)) => Some(CValue::Numeric(Number { ty: CTy::Int, bits })),
         (_, _) => None,
     }
 }
 
 /// A value as a cell of a type would hold it (6.5.4).
-pub fn cast(ty: CellType, v: Value) -> Option<Value>
+pub fn cast(ty: CellType, v: CValue) -> Option<CValue>
     ensures { result ≡ as_cell ty v }
 {
     value_in(ty, cell_for(ty, v)?)

@@ -1,7 +1,7 @@
 // The run of an expression's instructions.
 
 ghost use Rattle.std.specs.Prelude.{◌≡◌, ◌+◌, ◌≤◌, ℕ, List, Option, length};
-ghost use Rattle.c_meaning.specs.declared.values.Value.{Value as AnyValue};
+ghost use Rattle.c_meaning.specs.declared.values.CValue.{CValue as AnyValue};
 ghost use Rattle.c_mem.specs.MemoryViews.{memory};
 ghost use Rattle.c_step_exprs.specs.Running.{run_from, StopsAt, PutsAtMost};
 ghost use Rattle.c_step_exprs.specs.Stacks.{on_stack, most};

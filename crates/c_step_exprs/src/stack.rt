@@ -3,14 +3,14 @@
 ghost use Rattle.std.specs.Prelude.{◌≡◌, ◌<◌, ◌≤◌, ◌-◌, [], ◌∷◌, length, drop, slice_get, IfOk};
 ghost use Rattle.c_step_exprs.specs.Stacks.{on_stack, most};
 
-use c_meaning::values::Value;
+use c_meaning::values::CValue;
 use std::alloc::Global;
 use wf_text::NoMemory;
 
 /// A stack of values with room for a number of them. Only `reserve` takes memory.
 #[derive(Drop)]
 pub struct Stack {
-    values: Vec<Value>,
+    values: Vec<CValue>,
 }
 
 impl Stack {
@@ -25,7 +25,7 @@ impl Stack {
 
     /// Puts a value on top.
     #[tactic(auto, using(crate::proofs::Stacks::put_on_top, crate::proofs::Stacks::stack_length))]
-    pub fn push(&mut self, v: Value)
+    pub fn push(&mut self, v: CValue)
         requires { length (on_stack self.old) < most self.old }
         ensures values { on_stack self.new ≡ v ∷ on_stack self.old }
         ensures room { most self.old ≤ most self.new }
@@ -34,7 +34,7 @@ impl Stack {
     }
 
     /// Takes the value on top, where there is one.
-    pub fn pop(&mut self) -> Option<Value>
+    pub fn pop(&mut self) -> Option<CValue>
         ensures top { result ≡ slice_get (on_stack self.old) 0 }
         ensures rest { on_stack self.new ≡ drop 1 (on_stack self.old) }
         ensures room { most self.new ≡ most self.old }

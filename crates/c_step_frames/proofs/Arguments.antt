@@ -4,7 +4,7 @@ use Rattle.std.specs.Prelude.{◌-◌, option_map, option_and_then, slice_get, s
 use Rattle.std.proofs.lemmas.List.{append_assoc, reverse-append}
 use Rattle.c_meaning.specs.declared.cells.Cell.{Cell}
 use Rattle.c_meaning.specs.declared.cells.CellType.{CellType}
-use Rattle.c_meaning.specs.declared.values.Value.{Value}
+use Rattle.c_meaning.specs.declared.values.CValue.{CValue}
 use Rattle.c_meaning.specs.CMemory.{Field, cells, part, Object, cell_of}
 use Rattle.c_mem.specs.FieldParts.{stored_in, stored_at_field, Fits, FitsField, FitsObject}
 use Rattle.c_mem.proofs.Fitting.{converted_fits}
@@ -29,11 +29,11 @@ through (Some d) None t u fs = refl
 through (Some d) (Some c) t u None = refl
 through (Some d) (Some c) t u (Some fields) = refl
 
-one_passed : (u : CellType) (v : Value) (o : Option Cell) → option_and_then (λ cell. option_map (λ (fields : List Field). one_cell u cell ∷ fields) (Some [])) o ≡ option_and_then (λ it. option_map (λ (fields : List Field). fields ++ one_cell u it ∷ []) (Some [])) o
+one_passed : (u : CellType) (v : CValue) (o : Option Cell) → option_and_then (λ cell. option_map (λ (fields : List Field). one_cell u cell ∷ fields) (Some [])) o ≡ option_and_then (λ it. option_map (λ (fields : List Field). fields ++ one_cell u it ∷ []) (Some [])) o
 one_passed u v None = refl
 one_passed u v (Some cell) = refl
 
-pub passed_last : (ts : List CellType) (u : CellType) (vs : List Value) (v : Value)
+pub passed_last : (ts : List CellType) (u : CellType) (vs : List CValue) (v : CValue)
     → passed_cells (ts ++ u ∷ []) (vs ++ v ∷ []) ≡ option_and_then (λ it. option_map (λ (fields : List Field). fields ++ one_cell u it ∷ []) (passed_cells ts vs)) (cell_of u v)
 passed_last [] u [] v = one_passed u v (cell_of u v)
 passed_last [] u (w ∷ []) v = none_last (cell_of u w) u ∙ sym (none_end (cell_of u v) u)
@@ -85,7 +85,7 @@ set_shaped (u ∷ ts) (f ∷ fs) zero t cell h e = let s : u ≡ t = cc (e) in (
 set_shaped (u ∷ ts) (f ∷ fs) (suc i) t cell h e = (h.0, set_shaped ts fs i t cell h.1 e)
 
 -- What is still to be taken, where the fields from `left` on are there.
-abbrev pub Gives : (ts : List CellType) → (given : List Value) → (left : ℕ) → (stack : List Value) → (done : List Field) → Type 0
+abbrev pub Gives : (ts : List CellType) → (given : List CValue) → (left : ℕ) → (stack : List CValue) → (done : List Field) → Type 0
 Gives ts given left stack done = passed_cells ts given ≡ option_map (λ (front : List Field). front ++ done) (passed_cells (take left ts) (on_top left stack))
 
 -- A list up to a place and the item there.
@@ -94,21 +94,21 @@ take_one [] i x e = absurd (cc (e))
 take_one (y ∷ ys) zero x e = let s : y ≡ x = cc (e) in ap (λ z. z ∷ []) s
 take_one (y ∷ ys) (suc i) x e = let n : suc i + 1 ≡ suc (i + 1) = omega arith in rw n (ap (λ (zs : List _). y ∷ zs) (take_one ys i x e))
 
-top_last : (i : ℕ) (v : Value) (stack : List Value) → on_top (i + 1) (v ∷ stack) ≡ on_top i stack ++ v ∷ []
+top_last : (i : ℕ) (v : CValue) (stack : List CValue) → on_top (i + 1) (v ∷ stack) ≡ on_top i stack ++ v ∷ []
 top_last i v stack = let n : i + 1 ≡ suc i = omega arith in rw n (reverse-append (v ∷ []) (take i stack))
 
 joined : (t : CellType) (cell : Cell) (done : List Field) (o : Option (List Field)) → option_map (λ (front : List Field). front ++ done) (option_map (λ (fields : List Field). fields ++ one_cell t cell ∷ []) o) ≡ option_map (λ (front : List Field). front ++ (one_cell t cell ∷ done)) o
 joined t cell done None = refl
 joined t cell done (Some fields) = ap Some (append_assoc fields (one_cell t cell ∷ []) done)
 
-last_here : (ts : List CellType) (i : ℕ) (t : CellType) (v : Value) (stack : List Value) → slice_get ts i ≡ Some t
+last_here : (ts : List CellType) (i : ℕ) (t : CellType) (v : CValue) (stack : List CValue) → slice_get ts i ≡ Some t
     → passed_cells (take (i + 1) ts) (on_top (i + 1) (v ∷ stack)) ≡ option_and_then (λ it. option_map (λ (fields : List Field). fields ++ one_cell t it ∷ []) (passed_cells (take i ts) (on_top i stack))) (cell_of t v)
 last_here ts i t v stack e =
     ap (λ (us : List CellType). passed_cells us (on_top (i + 1) (v ∷ stack))) (take_one ts i t e)
-    ∙ (ap (λ (vs : List Value). passed_cells (take i ts ++ t ∷ []) vs) (top_last i v stack) ∙ passed_last (take i ts) t (on_top i stack) v)
+    ∙ (ap (λ (vs : List CValue). passed_cells (take i ts ++ t ∷ []) vs) (top_last i v stack) ∙ passed_last (take i ts) t (on_top i stack) v)
 
 -- One argument is taken and converted.
-pub takes_one : (ts : List CellType) (given : List Value) (i : ℕ) (t : CellType) (v : Value) (stack : List Value) (cell : Cell) (done : List Field)
+pub takes_one : (ts : List CellType) (given : List CValue) (i : ℕ) (t : CellType) (v : CValue) (stack : List CValue) (cell : Cell) (done : List Field)
     → slice_get ts i ≡ Some t → cell_of t v ≡ Some cell → Gives ts given (i + 1) (v ∷ stack) done → Gives ts given i stack (one_cell t cell ∷ done)
 takes_one ts given i t v stack cell done e f h =
     h ∙ (ap (λ (o : Option (List Field)). option_map (λ (front : List Field). front ++ done) o)
@@ -116,7 +116,7 @@ takes_one ts given i t v stack cell done e f h =
     ∙ joined t cell done (passed_cells (take i ts) (on_top i stack)))
 
 -- One has no value of its type.
-pub takes_none : (ts : List CellType) (given : List Value) (i : ℕ) (t : CellType) (v : Value) (stack : List Value) (done : List Field)
+pub takes_none : (ts : List CellType) (given : List CValue) (i : ℕ) (t : CellType) (v : CValue) (stack : List CValue) (done : List Field)
     → slice_get ts i ≡ Some t → cell_of t v ≡ None → Gives ts given (i + 1) (v ∷ stack) done → passed_cells ts given ≡ None
 takes_none ts given i t v stack done e f h =
     h ∙ ap (λ (o : Option (List Field)). option_map (λ (front : List Field). front ++ done) o)
@@ -131,10 +131,10 @@ top_of_none : (i : ℕ) → on_top i [] ≡ []
 top_of_none zero = refl
 top_of_none (suc i) = refl
 
-pub too_few : (ts : List CellType) (given : List Value) (i : ℕ) (t : CellType) (done : List Field) → slice_get ts i ≡ Some t → Gives ts given (i + 1) [] done → passed_cells ts given ≡ None
+pub too_few : (ts : List CellType) (given : List CValue) (i : ℕ) (t : CellType) (done : List Field) → slice_get ts i ≡ Some t → Gives ts given (i + 1) [] done → passed_cells ts given ≡ None
 too_few ts given i t done e h =
     h ∙ ap (λ (o : Option (List Field)). option_map (λ (front : List Field). front ++ done) o)
-    (ap (λ (vs : List Value). passed_cells (take (i + 1) ts) vs) (top_of_none (i + 1)) ∙ nothing_passed ts i t e)
+    (ap (λ (vs : List CValue). passed_cells (take (i + 1) ts) vs) (top_of_none (i + 1)) ∙ nothing_passed ts i t e)
 
 -- The fields that are there so far.
 pub done_grows : (fs : Object) (i n : ℕ) (x : Field) → i < length fs → i < n → take (n - i) (drop i (slice_set fs i x)) ≡ x ∷ take (n - (i + 1)) (drop (i + 1) fs)
@@ -173,7 +173,7 @@ unset_starts [] us = tt
 unset_starts (t ∷ ts) us = (refl, unset_starts ts us)
 
 -- An argument fits its field.
-pub passes_fit : (ts : List CellType) (fs : Object) (i : ℕ) (t : CellType) (v : Value) (cell : Cell) → StartsWith ts fs → slice_get ts i ≡ Some t → Some cell ≡ cell_of t v → FitsObject fs i cell
+pub passes_fit : (ts : List CellType) (fs : Object) (i : ℕ) (t : CellType) (v : CValue) (cell : Cell) → StartsWith ts fs → slice_get ts i ≡ Some t → Some cell ≡ cell_of t v → FitsObject fs i cell
 passes_fit [] fs i t v cell h e f = absurd (cc (e))
 passes_fit (u ∷ ts) [] i t v cell h e f = absurd h
 passes_fit (u ∷ ts) (g ∷ fs) zero t v cell h e f = let s : u ≡ t = cc (e) in one_fits g h.0 (subst (λ (x : CellType). Fits x cell) (sym s) (converted_fits t v cell (sym f)))
@@ -199,12 +199,12 @@ last_one (a ∷ xs) (b ∷ ys) x y e =
     (ap (λ z. z ∷ xs) s ∙ ap (λ zs. b ∷ zs) r.0, r.1)
 
 -- What is left to take, once one argument is taken more.
-pub gives_more : (ts : List CellType) (given : List Value) (i left : ℕ) (stack now : List Value) (fs new : Object) (t : CellType) (v : Value) (cell : Cell)
+pub gives_more : (ts : List CellType) (given : List CValue) (i left : ℕ) (stack now : List CValue) (fs new : Object) (t : CellType) (v : CValue) (cell : Cell)
     → left ≡ i + 1 → left ≤ length ts → StartsWith ts fs → slice_get ts i ≡ Some t → stack ≡ v ∷ now → cell_of t v ≡ Some cell → new ≡ slice_set fs i (one_cell t cell)
     → Gives ts given left stack (take (length ts - left) (drop left fs)) → Gives ts given i now (take (length ts - i) (drop i new))
 gives_more ts given i left stack now fs new t v cell e within shaped get s f n h =
     let h1 : Gives ts given (i + 1) stack (take (length ts - (i + 1)) (drop (i + 1) fs)) = subst (λ (k : ℕ). Gives ts given k stack (take (length ts - k) (drop k fs))) e h in
-    let h2 : Gives ts given (i + 1) (v ∷ now) (take (length ts - (i + 1)) (drop (i + 1) fs)) = subst (λ (x : List Value). Gives ts given (i + 1) x (take (length ts - (i + 1)) (drop (i + 1) fs))) s h1 in
+    let h2 : Gives ts given (i + 1) (v ∷ now) (take (length ts - (i + 1)) (drop (i + 1) fs)) = subst (λ (x : List CValue). Gives ts given (i + 1) x (take (length ts - (i + 1)) (drop (i + 1) fs))) s h1 in
     let r : Gives ts given i now (one_cell t cell ∷ take (length ts - (i + 1)) (drop (i + 1) fs)) = takes_one ts given i t v now cell (take (length ts - (i + 1)) (drop (i + 1) fs)) get f h2 in
     let q : take (length ts - i) (drop i new) ≡ one_cell t cell ∷ take (length ts - (i + 1)) (drop (i + 1) fs) =
     ap (λ (o : Object). take (length ts - i) (drop i o)) n ∙ done_grows fs i (length ts) (one_cell t cell) (omega (arith, shaped_length ts fs shaped, within, e)) (omega (arith, within, e)) in
@@ -216,7 +216,7 @@ drop_one_more [] (suc k) = let e : suc k + 1 ≡ suc (k + 1) = omega arith in rw
 drop_one_more (x ∷ xs) zero = refl
 drop_one_more (x ∷ xs) (suc k) = let e : suc k + 1 ≡ suc (k + 1) = omega arith in rw e (drop_one_more xs k)
 
-pub taken_so_far : (stack0 stack now : List Value) (v : Value) (n i left : ℕ) → left ≡ i + 1 → left ≤ n → stack ≡ v ∷ now → stack ≡ drop (n - left) stack0 → now ≡ drop (n - i) stack0
+pub taken_so_far : (stack0 stack now : List CValue) (v : CValue) (n i left : ℕ) → left ≡ i + 1 → left ≤ n → stack ≡ v ∷ now → stack ≡ drop (n - left) stack0 → now ≡ drop (n - i) stack0
 taken_so_far stack0 stack now v n i left e w s h =
     let k : n - i ≡ (n - left) + 1 = omega (arith, e, w) in
     sym (ap (λ (j : ℕ). drop j stack0) k ∙ (drop_one_more stack0 (n - left) ∙ ap (drop 1) (sym h ∙ s)))
@@ -227,13 +227,13 @@ past_end (x ∷ xs) zero e = absurd (cc (e))
 past_end (x ∷ xs) (suc i) e = omega (arith, past_end xs i e)
 
 -- One argument can't be taken.
-pub gives_none : (ts : List CellType) (given : List Value) (i left : ℕ) (stack now : List Value) (done : List Field)
+pub gives_none : (ts : List CellType) (given : List CValue) (i left : ℕ) (stack now : List CValue) (done : List Field)
     → left ≡ i + 1 → left ≤ length ts → Gives ts given left stack done
-    → (stack ≡ []) ⊎ ((t : CellType) × (v : Value) × (slice_get ts i ≡ Some t) × (stack ≡ v ∷ now) × (cell_of t v ≡ None))
+    → (stack ≡ []) ⊎ ((t : CellType) × (v : CValue) × (slice_get ts i ≡ Some t) × (stack ≡ v ∷ now) × (cell_of t v ≡ None))
     → passed_cells ts given ≡ None
 gives_none ts given i left stack now done e w h (inl s) =
     let h1 : Gives ts given (i + 1) stack done = subst (λ (k : ℕ). Gives ts given k stack done) e h in
-    let h2 : Gives ts given (i + 1) [] done = subst (λ (x : List Value). Gives ts given (i + 1) x done) s h1 in
+    let h2 : Gives ts given (i + 1) [] done = subst (λ (x : List CValue). Gives ts given (i + 1) x done) s h1 in
     by_type (slice_get ts i) refl h2
   where
     by_type : (o : Option CellType) → slice_get ts i ≡ o → Gives ts given (i + 1) [] done → passed_cells ts given ≡ None
@@ -241,11 +241,11 @@ gives_none ts given i left stack now done e w h (inl s) =
     by_type None g k = absurd (omega (arith, e, w, past_end ts i g))
 gives_none ts given i left stack now done e w h (inr r) =
     let h1 : Gives ts given (i + 1) stack done = subst (λ (k : ℕ). Gives ts given k stack done) e h in
-    let h2 : Gives ts given (i + 1) (r.1 ∷ now) done = subst (λ (x : List Value). Gives ts given (i + 1) x done) r.3 h1 in
+    let h2 : Gives ts given (i + 1) (r.1 ∷ now) done = subst (λ (x : List CValue). Gives ts given (i + 1) x done) r.3 h1 in
     takes_none ts given i r.0 r.1 now done r.2 r.4 h2
 
 -- The top of a stack, and what a store leaves.
-pub top_is : (stack now : List Value) (v : Value) → Some v ≡ slice_get stack 0 → now ≡ drop 1 stack → stack ≡ v ∷ now
+pub top_is : (stack now : List CValue) (v : CValue) → Some v ≡ slice_get stack 0 → now ≡ drop 1 stack → stack ≡ v ∷ now
 top_is [] now v e n = absurd (cc (e))
 top_is (w ∷ ws) now v e n = let s : v ≡ w = cc (e) in sym (ap (λ x. x ∷ now) s ∙ ap (λ xs. w ∷ xs) n)
 
@@ -253,7 +253,7 @@ pub leaves_this : (given : Option Object) (old new x : Object) (r : Option (Unit
 leaves_this given old new x None h e = absurd (cc (h.0, e))
 leaves_this given old new x (Some done) h e = cc (h, e)
 
-pub passes_one : (ts : List CellType) (fs new : Object) (i : ℕ) (t : CellType) (v : Value) (cell : Cell) (stack now : List Value) (r : Option (Unit {0})) → StartsWith ts fs → slice_get ts i ≡ Some t
+pub passes_one : (ts : List CellType) (fs new : Object) (i : ℕ) (t : CellType) (v : CValue) (cell : Cell) (stack now : List CValue) (r : Option (Unit {0})) → StartsWith ts fs → slice_get ts i ≡ Some t
     → Some v ≡ slice_get stack 0 → now ≡ drop 1 stack → Some cell ≡ cell_of t v → Leaves (stored_at_field fs i 0 cell) fs r new → PassesOne ts i fs stack (Some tt) new now
 passes_one ts fs new i t v cell stack now r h get top rest f left =
     (t, v, cell, get, top_is stack now v top rest, sym f, leaves_this (stored_at_field fs i 0 cell) fs new (slice_set fs i (one_cell t cell)) r left (stored_shaped ts fs i t cell h get))

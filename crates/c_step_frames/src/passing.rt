@@ -34,10 +34,8 @@ pub(crate) fn pass(types: &[CellType], object: &mut Object, stack: &mut Stack) -
 {
     let mut left = types.len();
     while left > 0 {
-        match pass_one(types, left - 1, object, stack) {
-            Some(()) => left -= 1,
-            None => return None,
-        }
+        pass_one(types, left - 1, object, stack)?;
+        left -= 1;
     }
     Some(())
 }

@@ -7,7 +7,7 @@ use Rattle.wf_bufs.specs.HostViews.{arg_of}
 use Rattle.wf_base.specs.HostRun.{Host}
 use Rattle.c_meaning.specs.CMemory.{Object, Memory}
 use Rattle.c_meaning.specs.CRun.{no_buffer, io_object, io_objects, arg_bytes, slice_values, arg_values, all_values}
-use Rattle.c_meaning.specs.declared.values.Value.{Value}
+use Rattle.c_meaning.specs.declared.values.CValue.{CValue}
 use Rattle.c_mem.proofs.Copies.{one_more}
 use Rattle.c_mem.specs.declared.mem.Mem.{Mem}
 use Rattle.c_mem.specs.MemoryViews.{HasRoom}
@@ -47,11 +47,11 @@ one_other before now later object k e l o =
     ∙ (append_assoc before (replicate k no_buffer) (no_buffer ∷ []) ∙ ap (λ (m : Memory). before ++ m) (one_more k no_buffer))))
 
 -- The values of an argument more.
-pub one_given : (host : Host) (now later : List Value) (buffer object i : ℕ) (args : List Arg) (d : Arg) (whole : List Value) → i < length args
+pub one_given : (host : Host) (now later : List CValue) (buffer object i : ℕ) (args : List Arg) (d : Arg) (whole : List CValue) → i < length args
     → now ++ all_values host buffer object (drop i (map arg_of args)) ≡ whole → later ≡ now ++ arg_values host buffer object (arg_of (slice_index_or args i d))
     → later ++ all_values host (buffer + 1) (object + 1) (drop (i + 1) (map arg_of args)) ≡ whole
 one_given host now later buffer object i args d whole h e l =
-    ap (λ (vs : List Value). vs ++ all_values host (buffer + 1) (object + 1) (drop (i + 1) (map arg_of args))) l
+    ap (λ (vs : List CValue). vs ++ all_values host (buffer + 1) (object + 1) (drop (i + 1) (map arg_of args))) l
     ∙ (append_assoc now (arg_values host buffer object (arg_of (slice_index_or args i d))) (all_values host (buffer + 1) (object + 1) (drop (i + 1) (map arg_of args)))
     ∙ (ap (λ (xs : List HostArg). now ++ all_values host buffer object xs) (sym (next_arg args i d h)) ∙ e))
 
@@ -66,5 +66,5 @@ few_values host b o (io None) = omega arith
 few_values host b o (io (Some k)) = omega arith
 few_values host b o (bytes name) = two_values (arg_bytes host (bytes name)) o
 
-pub few_more : (host : Host) (b o : ℕ) (arg : HostArg) (now later : List Value) (most : ℕ) → later ≡ now ++ arg_values host b o arg → length now ≤ most → length later ≤ most + 2
-few_more host b o arg now later most e h = omega (arith, ap (λ (vs : List Value). length vs) e, length-append now (arg_values host b o arg), few_values host b o arg, h)
+pub few_more : (host : Host) (b o : ℕ) (arg : HostArg) (now later : List CValue) (most : ℕ) → later ≡ now ++ arg_values host b o arg → length now ≤ most → length later ≤ most + 2
+few_more host b o arg now later most e h = omega (arith, ap (λ (vs : List CValue). length vs) e, length-append now (arg_values host b o arg), few_values host b o arg, h)

@@ -1,21 +1,20 @@
 // The values that are passed for a host's arguments.
 
 ghost use Rattle.std.specs.Prelude.{◌≡◌, ℕ, ◌+◌, ◌*◌, ◌^◌, ◌<◌, ◌≤◌, ◌∷◌, [], ◌++◌, List, length, map, vec_capacity};
-ghost use Rattle.wf_text.specs.HostActions.{bytes as named_bytes};
 ghost use Rattle.wf_bufs.specs.HostViews.{arg_of};
 ghost use Rattle.wf_bufs.specs.HostSeen.{host_of};
 ghost use Rattle.wf_num.specs.declared.c_arithmetic.CTy.TheVariants.{U64 as u64_type};
-ghost use Rattle.c_meaning.specs.declared.values.Value.TheVariants.{Numeric as numeric, Address as address};
+ghost use Rattle.c_meaning.specs.declared.values.CValue.TheVariants.{Numeric as numeric, Address as address};
 ghost use Rattle.c_meaning.specs.CValues.{number, to_object, truth as truth_number};
 ghost use Rattle.c_meaning.specs.CRun.{arg_bytes, slice_values, arg_values, all_values};
 ghost use Rattle.c_step_hosts.specs.Lending.{IsThere, AreThere};
 
-use c_meaning::values::{Number, Pointer, Value};
+use c_meaning::values::{CValue, Number, Pointer};
 use wf_bufs::{Arg, Bufs};
 use wf_num::CTy;
 
 /// Adds a value; there is room for it.
-fn add(given: &mut Vec<Value>, v: Value)
+fn add(given: &mut Vec<CValue>, v: CValue)
     requires { length given.old.items < vec_capacity given.old }
     ensures values { given.new.items ≡ given.old.items ++ v ∷ [] }
     ensures room { vec_capacity given.old ≤ vec_capacity given.new }
@@ -24,10 +23,10 @@ fn add(given: &mut Vec<Value>, v: Value)
 }
 
 /// A number of `size_t`.
-fn size(n: u64) -> Value
+fn size(n: u64) -> CValue
     ensures { result ≡ numeric (number u64_type n) }
 {
-    Value::Numeric(Number {
+    CValue::Numeric(Number {
         ty: CTy::U64,
         bits: n,
     })
@@ -44,10 +43,10 @@ fn truth(b: bool) -> Number
 }
 
 /// A pointer to the first cell of an object.
-fn start(object: usize) -> Value
+fn start(object: usize) -> CValue
     ensures { result ≡ address (to_object object) }
 {
-    Value::Address(Pointer {
+    CValue::Address(Pointer {
         object,
         field: 0,
         index: 0,
@@ -55,13 +54,13 @@ fn start(object: usize) -> Value
 }
 
 /// The two values of a slice of so many bytes, which are this object.
-fn add_slice(count: usize, object: usize, given: &mut Vec<Value>)
+fn add_slice(count: usize, object: usize, given: &mut Vec<CValue>)
     requires { length given.old.items + 2 ≤ vec_capacity given.old }
     ensures values { (them : List ℕ) → length them ≡ count → given.new.items ≡ given.old.items ++ slice_values them object }
     ensures room { vec_capacity given.old ≤ vec_capacity given.new }
 {
     if count == 0 {
-        add(given, Value::NullPointer);
+        add(given, CValue::NullPointer);
         add(given, size(0));
     } else {
         add(given, start(object));
@@ -81,7 +80,7 @@ fn count_bytes(name: Option<u16>, host: &Bufs) -> usize
 }
 
 /// The values of an argument. Its io buffer's struct and its bytes are these objects.
-fn add_values(arg: Arg, host: &Bufs, buffer: usize, bytes: usize, given: &mut Vec<Value>)
+fn add_values(arg: Arg, host: &Bufs, buffer: usize, bytes: usize, given: &mut Vec<CValue>)
     requires there { IsThere (length host.now.bufs) (length host.now.arrays) (arg_of arg) }
     requires room { length given.old.items + 2 ≤ vec_capacity given.old }
     ensures values { given.new.items ≡ given.old.items ++ arg_values (host_of host.now) buffer bytes (arg_of arg) }
@@ -89,8 +88,8 @@ fn add_values(arg: Arg, host: &Bufs, buffer: usize, bytes: usize, given: &mut Ve
 {
     match arg {
         Arg::Num(n) => add(given, size(n)),
-        Arg::Flag(b) => add(given, Value::Numeric(truth(b))),
-        Arg::Io(None) => add(given, Value::NullPointer),
+        Arg::Flag(b) => add(given, CValue::Numeric(truth(b))),
+        Arg::Io(None) => add(given, CValue::NullPointer),
         Arg::Io(Some(_)) => add(given, start(buffer)),
         Arg::Bytes(name) => add_slice(count_bytes(name, host), bytes, given),
     }
@@ -98,7 +97,7 @@ fn add_values(arg: Arg, host: &Bufs, buffer: usize, bytes: usize, given: &mut Ve
 
 /// The values of all arguments of a call. The structs of the io buffers are the objects from `buffer` on, and the bytes
 /// those from `bytes` on.
-pub fn add_all(args: &[Arg], host: &Bufs, buffer: usize, bytes: usize, given: &mut Vec<Value>)
+pub fn add_all(args: &[Arg], host: &Bufs, buffer: usize, bytes: usize, given: &mut Vec<CValue>)
     requires there { AreThere (length host.now.bufs) (length host.now.arrays) (map arg_of args.now) }
     requires room { length given.old.items + 2 * length args.now ≤ vec_capacity given.old }
     requires numbers { buffer + length args.now < 2 ^ 64 }

@@ -1,12 +1,11 @@
 // Bytes of a host that are lent to memory.
 
-ghost use Rattle.std.specs.Prelude.{◌≡◌, ℕ, ◌+◌, ◌<◌, ◌≤◌, [], ◌++◌, true, length, map, vec_capacity, Some, slice_get, slice_set, List};
+ghost use Rattle.std.specs.Prelude.{◌≡◌, ℕ, ◌+◌, ◌<◌, ◌≤◌, [], ◌++◌, length, map, vec_capacity, Some, slice_get, slice_set, List};
 ghost use Rattle.wf_base.specs.BaseOps.{Buffer};
 ghost use Rattle.wf_base.specs.LawfulActions.{AreDistinct, named_buffers, named_arrays};
 ghost use Rattle.wf_bufs.specs.HostViews.{arg_of};
 ghost use Rattle.wf_bufs.specs.HostSeen.{host_of};
-ghost use Rattle.c_meaning.specs.CRun.{bytes_object, arg_bytes, byte_objects};
-ghost use Rattle.c_mem.specs.FieldParts.{has_bytes};
+ghost use Rattle.c_meaning.specs.CRun.{arg_bytes, byte_objects};
 ghost use Rattle.c_mem.specs.MemoryViews.{memory, HasRoom};
 ghost use Rattle.c_step_hosts.specs.Lending.{IsThere, AreThere, lent_buffer, lent_for, all_lent};
 ghost use Rattle.c_step_hosts.specs.Spares.{HaveBytes};

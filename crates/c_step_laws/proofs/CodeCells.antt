@@ -2,7 +2,7 @@
 use Rattle.std.proofs.Common.{◌≡◌, ℕ, zero, suc, ◌+◌, Bool, true, List, [], ◌∷◌, ◌++◌, length, max, Option, Some, None, refl, sym, ap, ◌∙◌, subst, arith}
 use Rattle.c_text.specs.declared.kinds.CNumber.TheVariants as literal
 use Rattle.c_text.specs.CTree.{TypeTree, ExprTree, number, variable, Args, no_arg, expr_arg, sizeof_arg, Code, finish, nested, empty, assign, call, jump, branch, repeat, select, leave, case_label, default_label, name_label}
-use Rattle.c_meaning.specs.CTypes.{Function, Scope, function_named, ExprType, Held, type_of, held_of, arg_types}
+use Rattle.c_meaning.specs.CTypes.{Function, CScope, function_named, ExprType, Held, type_of, held_of, arg_types}
 use Rattle.c_meaning.specs.CStep.{Callee, memory_move, memory_set, own, callee_of}
 use Rattle.c_meaning.specs.UnitForm.{Checked}
 use Rattle.c_form_stmts.specs.Lines.{LineTree, line, lines_of}
@@ -46,13 +46,13 @@ module _ (t : FlatText) (table : List ℕ) where
   span_is e code h = ap (code_cells table) (at_range t.exprs e code h)
 
 -- What a lower scope's types are in the scope of the program.
-pub record Rises (low high : Scope) : Type 0 where
+pub record Rises (low high : CScope) : Type 0 where
   pub types : (e : ExprTree) (type : ExprType) → type_of low e ≡ Some type → type_of high e ≡ Some type
   pub lvalues : (e : ExprTree) (held : Held) → held_of low e ≡ Some held → held_of high e ≡ Some held
   pub arguments : (given : Args) → AllTyped (arg_types low given) → AllTyped (arg_types high given)
 
 -- The numbers of functions have the cells that their names have.
-pub record AreNumbered (table : List ℕ) (of : List ℕ → ℕ) (names : Names) (low : Scope) : Type 0 where
+pub record AreNumbered (table : List ℕ) (of : List ℕ → ℕ) (names : Names) (low : CScope) : Type 0 where
   pub in_expressions : (name : List ℕ) → numbered table (function_number names.scope.functions name) ≡ of name
   pub in_statements : (name : List ℕ) → numbered table (function_number names.callable name) ≡ of name
   pub known : (name : List ℕ) (g : Function) → function_named low.functions name ≡ Some g → Is (function_number names.callable name)

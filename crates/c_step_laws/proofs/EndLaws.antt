@@ -7,8 +7,8 @@ use Rattle.turns.proofs.Unfolds.{unfolds}
 use Rattle.c_text.specs.declared.kinds.Linkage.{Linkage}
 use Rattle.c_text.specs.declared.kinds.Linkage.TheVariants.{External, Static, StaticInline}
 use Rattle.c_text.specs.CTree.{ExprTree, Code, finish, nested, empty, assign, call, jump, branch, repeat, select, leave, case_label, default_label, name_label}
-use Rattle.c_meaning.specs.declared.values.Value.{Value}
-use Rattle.c_meaning.specs.declared.values.Value.TheVariants.{Numeric as numeric, Address as address, NullPointer as null_pointer}
+use Rattle.c_meaning.specs.declared.values.CValue.{CValue}
+use Rattle.c_meaning.specs.declared.values.CValue.TheVariants.{Numeric as numeric, Address as address, NullPointer as null_pointer}
 use Rattle.c_meaning.specs.CValues.{holds}
 use Rattle.c_meaning.specs.CMemory.{Object, Memory}
 use Rattle.c_meaning.specs.CTypes.{Function}
@@ -36,7 +36,7 @@ module _ (r : Running) where
     if_ends true met unmet h k = h
     if_ends false met unmet h k = k
 
-    by_test_ends : (o : Option Value) (met unmet : Next State Returned) → EndsIn memory met → EndsIn memory unmet → EndsIn memory (by_test o met unmet)
+    by_test_ends : (o : Option CValue) (met unmet : Next State Returned) → EndsIn memory met → EndsIn memory unmet → EndsIn memory (by_test o met unmet)
     by_test_ends None met unmet h k = tt
     by_test_ends (Some v) met unmet h k = if_ends (holds v) met unmet h k
 
@@ -56,7 +56,7 @@ module _ (r : Running) where
     enters_ends None rest k = tt
     enters_ends (Some p) rest k = tt
 
-    switches_ends : (o : Option Value) (body rest : Code) (k : Continuation) → EndsIn memory (switches o body rest k memory)
+    switches_ends : (o : Option CValue) (body rest : Code) (k : Continuation) → EndsIn memory (switches o body rest k memory)
     switches_ends None body rest k = tt
     switches_ends (Some (numeric n)) body rest k = enters_ends (first_of (find (by_case n) body (behind finish rest k)) (find by_default body (behind finish rest k))) rest k
     switches_ends (Some (address p)) body rest k = tt
@@ -73,16 +73,16 @@ module _ (r : Running) where
     holding_ends More on f = tt
     holding_ends Lost on f = tt
 
-    calls_ends : (n : ℕ) (target : Option ExprTree) (meaning : Meaning) (given : Option (List Value)) (rest : Code) (k : Continuation) → EndsIn memory (calls r n target meaning given rest k memory)
+    calls_ends : (n : ℕ) (target : Option ExprTree) (meaning : Meaning) (given : Option (List CValue)) (rest : Code) (k : Continuation) → EndsIn memory (calls r n target meaning given rest k memory)
     calls_ends n target meaning None rest k = tt
     calls_ends n target meaning (Some given) rest k = holding_ends (meaning n given memory) _ (λ left done. goes_back_ends n left rest k (kept r memory target done))
 
-    function_ends : (c : Callee) (n : ℕ) (target : Option ExprTree) (name : List ℕ) (given : List (Option Value)) (rest : Code) (k : Continuation) → EndsIn memory (calls_function c r n target name given rest k memory)
+    function_ends : (c : Callee) (n : ℕ) (target : Option ExprTree) (name : List ℕ) (given : List (Option CValue)) (rest : Code) (k : Continuation) → EndsIn memory (calls_function c r n target name given rest k memory)
     function_ends memory_move n target name given rest k = goes_on_ends rest k (move_given memory given)
     function_ends memory_set n target name given rest k = goes_on_ends rest k (set_given memory given)
     function_ends own n target name given rest k = calls_ends n target (r.callee name) (all_some given) rest k
 
-    returns_ends : (n : ℕ) (v : Option Value) → EndsIn memory (returns n memory v)
+    returns_ends : (n : ℕ) (v : Option CValue) → EndsIn memory (returns n memory v)
     returns_ends n None = tt
     returns_ends n (Some v) = refl
 
@@ -144,10 +144,10 @@ module _ (r : Running) where
   comes_to_end n s = end_up_to (suc n) n s (omega arith)
 
 module _ (p : Program) where
-  abbrev Passing : List Function → List ℕ → ℕ → List Value → Memory → Returned → Type 0
+  abbrev Passing : List Function → List ℕ → ℕ → List CValue → Memory → Returned → Type 0
   Passing fs name n given memory done = (now : Memory) × CallPasses p fs name n given memory now × (done.memory ≡ take (length memory) now)
 
-  module _ (f : Function) (fs : List Function) (memory : Memory) (given : List Value) where
+  module _ (f : Function) (fs : List Function) (memory : Memory) (given : List CValue) where
     abbrev r : Running
     r = running p f (expression_call p fs) (call_of p fs) (length memory)
 
@@ -181,7 +181,7 @@ module _ (p : Program) where
     entered_end Static is zero left done e = absurd (cc e)
     entered_end Static is (suc n) left done e = started_end (suc n) n (subst (λ (l : Linkage). Enters l (suc n) n) (sym is) refl) left done e
 
-  call_end : (fs : List Function) (name : List ℕ) (n left : ℕ) (given : List Value) (memory : Memory) (done : Returned) → call_of p fs name n given memory ≡ Got left done → Passing fs name n given memory done
+  call_end : (fs : List Function) (name : List ℕ) (n left : ℕ) (given : List CValue) (memory : Memory) (done : Returned) → call_of p fs name n given memory ≡ Got left done → Passing fs name n given memory done
   call_end [] name n left given memory done e = absurd (cc e)
   call_end (f ∷ fs) name n left given memory done e = by (bytes_eq f.name name) e (call_end fs name n left given memory done)
     where

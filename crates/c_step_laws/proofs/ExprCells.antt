@@ -5,7 +5,7 @@ use Rattle.std.specs.Option.{option_map_or}
 use Rattle.c_text.specs.declared.kinds.COp.{COp}
 use Rattle.c_text.specs.declared.kinds.CUnary.TheVariants.{Not, Complement, Address}
 use Rattle.c_text.specs.CTree.{ExprTree, number, variable, member, element, pointed, operation, unary, cast, choice, called, Operands, no_operand, operand, Args, no_arg, expr_arg, sizeof_arg}
-use Rattle.c_meaning.specs.CTypes.{Function, Scope, ExprType, numbers, points_to, zero_literal, Held, one, fixed, many, inner, character, characters, held_type, as_number, address_type, cast_from, choice_type, passable, is_expression, result_of, called_type, function_named, variable_held, member_held, pointed_held, element_held, type_of, held_of, operand_types, arg_types}
+use Rattle.c_meaning.specs.CTypes.{Function, CScope, ExprType, numbers, points_to, zero_literal, Held, one, fixed, many, inner, character, characters, held_type, as_number, address_type, cast_from, choice_type, passable, is_expression, result_of, called_type, function_named, variable_held, member_held, pointed_held, element_held, type_of, held_of, operand_types, arg_types}
 use Rattle.c_meaning.specs.CExprs.{field_number, is_object_pointer, Combination, conjunction, disjunction, addition, other, combination_of}
 use Rattle.c_form_laws.proofs.NameLaws.{both_true, then_is, map_is, AllTyped, operands_typed, passed_typed, member_is, pointed_is, element_is, choice_is}
 use Rattle.c_step_exprs.specs.declared.instrs.Instr.{Instr}
@@ -104,7 +104,7 @@ module _ (table : List ℕ) where
   call_cells (Some k) count = omega arith
   call_cells None count = refl
 
-module _ (table : List ℕ) (scope : Scope) (of : List ℕ → ℕ) (alike : (name : List ℕ) → numbered table (function_number scope.functions name) ≡ of name) where
+module _ (table : List ℕ) (scope : CScope) (of : List ℕ → ℕ) (alike : (name : List ℕ) → numbered table (function_number scope.functions name) ≡ of name) where
   abbrev in_code : List Instr → ℕ
   in_code is = code_cells table is
 

@@ -4,7 +4,7 @@ use Rattle.std.specs.Prelude.{slice_get, slice_range}
 use Rattle.std.specs.Option.{option_map_or}
 use Rattle.std.proofs.lemmas.List.{append_assoc, length-append}
 use Rattle.c_text.specs.CTree.{ExprTree, LocalTree}
-use Rattle.c_meaning.specs.CTypes.{Function, Scope, ExprType, type_of}
+use Rattle.c_meaning.specs.CTypes.{Function, CScope, ExprType, type_of}
 use Rattle.c_meaning.specs.CCall.{Program, scope_in}
 use Rattle.c_meaning.specs.UnitForm.{Checked}
 use Rattle.c_form_stmts.specs.Lines.{LineTree, lines_of}
@@ -88,15 +88,15 @@ part_of p after f fs is =
     (subst (λ (gs : List Function). EndsAt p (code_of p p.functions) gs) is (ends_all p p.functions))
 
 -- Initial values.
-abbrev pub HasInitial : Scope → Option ExprTree → Type 0
+abbrev pub HasInitial : CScope → Option ExprTree → Type 0
 HasInitial scope None = Unit {0}
 HasInitial scope (Some e) = (type : ExprType) × (type_of scope e ≡ Some type)
 
-abbrev pub HaveInitials : Scope → List LocalTree → Type 0
+abbrev pub HaveInitials : CScope → List LocalTree → Type 0
 HaveInitials scope [] = Unit {0}
 HaveInitials scope (l ∷ ls) = HasInitial scope l.initial × HaveInitials scope ls
 
-module _ (t : FlatText) (table : List ℕ) (scope : Scope) (of : List ℕ → ℕ) (alike : (name : List ℕ) → numbered table (function_number scope.functions name) ≡ of name) where
+module _ (t : FlatText) (table : List ℕ) (scope : CScope) (of : List ℕ → ℕ) (alike : (name : List ℕ) → numbered table (function_number scope.functions name) ≡ of name) where
   initial_is : (place : ℕ) (o : Option ExprTree) → HasInitial scope o → StandAt t.exprs place (initial_exprs_of scope o) → optional_cells t table (initial_span scope place o) ≡ greatest of (optional_callees o)
   initial_is place None h x = refl
   initial_is place (Some e) h x = span_is t table place (value_code scope e) x ∙ value_cells table scope of alike e h.0 h.1

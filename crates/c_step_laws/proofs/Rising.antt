@@ -5,7 +5,7 @@ use Rattle.wf_num.specs.declared.c_arithmetic.CTy.TheVariants.{Int}
 use Rattle.c_text.specs.declared.kinds.COp.{COp}
 use Rattle.c_text.specs.declared.kinds.CUnary.TheVariants.{Not, Complement, Address}
 use Rattle.c_text.specs.CTree.{TypeTree, uint, size, boolean, uint_pointer, struct_pointer, text, ExprTree, number, variable, member, element, pointed, operation, unary, cast, choice, called, Operands, no_operand, operand, Args, no_arg, expr_arg, sizeof_arg, ParamTree}
-use Rattle.c_meaning.specs.CTypes.{StructDecl, Function, Scope, ExprType, numbers, points_to, zero_literal, cell, object, byte, held_type, as_number, operation_type, operations_type, address_type, is_known, value_type, cast_from, one_type, choice_type, assignable, passable, is_expression, result_of, called_type, struct_named, function_named, field_named, field_of, field_held, variable_held, member_held, pointed_held, element_held, type_of, held_of, operand_types, arg_types}
+use Rattle.c_meaning.specs.CTypes.{StructDecl, Function, CScope, ExprType, numbers, points_to, zero_literal, cell, object, byte, held_type, as_number, operation_type, operations_type, address_type, is_known, value_type, cast_from, one_type, choice_type, assignable, passable, is_expression, result_of, called_type, struct_named, function_named, field_named, field_of, field_held, variable_held, member_held, pointed_held, element_held, type_of, held_of, operand_types, arg_types}
 use Rattle.c_form_laws.proofs.NameLaws.{AllTyped, both_true}
 use Rattle.c_step_laws.proofs.CodeCells.{Rises}
 
@@ -71,12 +71,12 @@ up_called (Some f) g os ps h k = λ t e. ap (λ o. called_type o ps) (h f refl) 
         ap (λ (b : Bool). if b then result_of f else None) (both_are (is_expression f) (passable f.params ps) k2.0 (up_passed f.params os ps k k2.1)) ∙ e
 
 -- Names that are looked up in more.
-pub record Extends (low high : Scope) : Type 0 where
+pub record Extends (low high : CScope) : Type 0 where
   pub structs : (name : List ℕ) → Up (struct_named low.structs name) (struct_named high.structs name)
   pub functions : (name : List ℕ) → Up (function_named low.functions name) (function_named high.functions name)
   pub variables : (name : List ℕ) → Up (variable_held low name) (variable_held high name)
 
-module _ (low high : Scope) (more : Extends low high) where
+module _ (low high : CScope) (more : Extends low high) where
   up_fields : (name field : List ℕ) → Up (field_of low name field) (field_of high name field)
   up_fields name field = up_then (λ it. field_named it.fields field) (λ it. field_named it.fields field) _ _ (more.structs name) (λ it. up_same (field_named it.fields field))
 

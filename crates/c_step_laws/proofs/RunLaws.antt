@@ -4,7 +4,7 @@ use Rattle.std.specs.Prelude.{if◌then◌else◌, slice_get, bytes_eq, option_a
 use Rattle.std.proofs.lemmas.List.{append_assoc}
 use Rattle.turns.specs.Run.{Next, Go, Turn, End, Out, Fail}
 use Rattle.c_text.specs.CTree.{ExprTree, number, variable, member, element, pointed, operation, unary, cast, choice, called, Operands, no_operand, operand, Args, no_arg, expr_arg, sizeof_arg, Code, finish, nested, empty, assign, call, jump, branch, repeat, select, leave, case_label, default_label, name_label, LocalTree}
-use Rattle.c_meaning.specs.declared.values.Value.{Value}
+use Rattle.c_meaning.specs.declared.values.CValue.{CValue}
 use Rattle.c_meaning.specs.CMemory.{Memory}
 use Rattle.c_meaning.specs.CTypes.{Function, returned}
 use Rattle.c_meaning.specs.CExprs.{Surroundings}
@@ -153,7 +153,7 @@ module _ (c : CodeView) (p : Program) (calls_tree : (after : List Function) (f :
 
   -- Expressions.
   abbrev ExprBound : List Function → Type 0
-  ExprBound fs = (name : List ℕ) (memory : Memory) (given : List Value) (now : Memory) → ExpressionPasses p fs name memory given now → Over memory now (called_in fs name)
+  ExprBound fs = (name : List ℕ) (memory : Memory) (given : List CValue) (now : Memory) → ExpressionPasses p fs name memory given now → Over memory now (called_in fs name)
 
   value_over : (fs : List Function) → ExprBound fs → (s : Surroundings) (e : ExprTree) (now : Memory) → ValuePasses s (ExpressionPasses p fs) e now → Over s.memory now (greatest (called_in fs) (expr_callees e))
   value_over fs bound s e now h = over_more s.memory now (called_in fs h.it.function) (greatest (called_in fs) (expr_callees e)) (calls_most (called_in fs) e h.it h.stands) (bound h.it.function s.memory h.values now h.there)
@@ -171,7 +171,7 @@ module _ (c : CodeView) (p : Program) (calls_tree : (after : List Function) (f :
           let s = ap (λ (code : Code). greatest (called_in fs) (code_callees code)) (one_return f.body x e) in
           omega (arith, s, greatest_append (called_in fs) (expr_callees x) [], greatest_append (called_in fs) (code_callees f.body) (local_callees f.locals))
 
-  inline_over : (after : List Function) (f : Function) (fs : List Function) → p.functions ≡ after ++ f ∷ fs → ExprBound fs → (memory : Memory) (given : List Value) (now : Memory) → InlinePasses p f (expression_call p fs) (ExpressionPasses p fs) memory given now → Over memory now (deep c (placed f fs))
+  inline_over : (after : List Function) (f : Function) (fs : List Function) → p.functions ≡ after ++ f ∷ fs → ExprBound fs → (memory : Memory) (given : List CValue) (now : Memory) → InlinePasses p f (expression_call p fs) (ExpressionPasses p fs) memory given now → Over memory now (deep c (placed f fs))
   inline_over after f fs is bound memory given now h = by h.there
     where
       size : object_cells h.object ≡ length f.params
@@ -201,7 +201,7 @@ module _ (c : CodeView) (p : Program) (calls_tree : (after : List Function) (f :
 
   -- Statements.
   abbrev CallBound : List Function → Type 0
-  CallBound fs = (name : List ℕ) (n : ℕ) (given : List Value) (memory now : Memory) → IsTyped memory → CallPasses p fs name n given memory now → Over memory now (called_in fs name)
+  CallBound fs = (name : List ℕ) (n : ℕ) (given : List CValue) (memory now : Memory) → IsTyped memory → CallPasses p fs name n given memory now → Over memory now (called_in fs name)
 
   module _ (f : Function) (fs : List Function) (frame : ℕ) (exprs : ExprBound fs) (calls : CallBound fs) where
     abbrev r : Running
@@ -286,7 +286,7 @@ module _ (c : CodeView) (p : Program) (calls_tree : (after : List Function) (f :
         let good = steps_good entered steps (record { turns = turns; state = state f.body stop memory }) m (first, omega (arith, body_most)) at in
         over_same entered m.state.memory now most good.0.shape (statement_over m.turns m.state now good.0.typed good.1 h)
 
-  function_over : (after : List Function) (f : Function) (fs : List Function) → p.functions ≡ after ++ f ∷ fs → ExprBound fs → CallBound fs → (n : ℕ) (given : List Value) (memory now : Memory) → IsTyped memory
+  function_over : (after : List Function) (f : Function) (fs : List Function) → p.functions ≡ after ++ f ∷ fs → ExprBound fs → CallBound fs → (n : ℕ) (given : List CValue) (memory now : Memory) → IsTyped memory
       → FunctionPasses p f (expression_call p fs) (call_of p fs) (ExpressionPasses p fs) (CallPasses p fs) n given memory now → Over memory now (deep c (placed f fs))
   function_over after f fs is exprs calls n given memory now ready h =
       let size = frame_cells f given h.object h.is in

@@ -3,7 +3,7 @@ use Rattle.std.proofs.Common.{◌≡◌, ◌≤◌, ℕ, ◌+◌, List, [], ◌�
 use Rattle.std.specs.Prelude.{option_map, option_and_then}
 use Rattle.std.proofs.lemmas.List.{append_assoc, append-nil, length-map, drop_at}
 use Rattle.c_text.specs.CTree.{ParamTree, LocalTree}
-use Rattle.c_meaning.specs.declared.values.Value.{Value}
+use Rattle.c_meaning.specs.declared.values.CValue.{CValue}
 use Rattle.c_meaning.specs.declared.cells.Cell.{Cell}
 use Rattle.c_meaning.specs.declared.cells.Cell.TheVariants.{Unset as unset}
 use Rattle.c_meaning.specs.CMemory.{Field, cells, part, Object, Memory, cell_of}
@@ -102,7 +102,7 @@ cells_append : (xs ys : Object) → object_cells (xs ++ ys) ≡ object_cells xs 
 cells_append [] ys = omega arith
 cells_append (x ∷ xs) ys = omega (arith, cells_append xs ys)
 
-passed_has : (ps : List ParamTree) (vs : List Value) → HasCells (length ps) (passed ps vs)
+passed_has : (ps : List ParamTree) (vs : List CValue) → HasCells (length ps) (passed ps vs)
 passed_has [] [] = refl
 passed_has [] (v ∷ vs) = tt
 passed_has (p ∷ ps) [] = tt
@@ -113,19 +113,19 @@ passed_has (p ∷ ps) (v ∷ vs) = by (cell_of (cell_type p.kind) v) (passed ps 
     by (Some cell) None h = tt
     by (Some cell) (Some fields) h = omega (arith, h)
 
-pub passed_cells : (ps : List ParamTree) (vs : List Value) (object : Object) → passed ps vs ≡ Some object → object_cells object ≡ length ps
+pub passed_cells : (ps : List ParamTree) (vs : List CValue) (object : Object) → passed ps vs ≡ Some object → object_cells object ≡ length ps
 passed_cells ps vs object e = subst (HasCells (length ps)) e (passed_has ps vs)
 
 locals_cells : (ls : List LocalTree) → object_cells (map (λ l. field_with (local_name l) unset) ls) ≡ length ls
 locals_cells [] = refl
 locals_cells (l ∷ ls) = omega (arith, locals_cells ls)
 
-frame_has : (f : Function) (given : List Value) → HasCells (own_cells f) (frame_object f given)
+frame_has : (f : Function) (given : List CValue) → HasCells (own_cells f) (frame_object f given)
 frame_has f given = by (passed f.params given) (passed_has f.params given)
   where
     by : (fields : Option (List Field)) → HasCells (length f.params) fields → HasCells (own_cells f) (option_map (λ fields. fields ++ map (λ l. field_with (local_name l) unset) f.locals) fields)
     by None h = tt
     by (Some fields) h = omega (arith, h, cells_append fields (map (λ l. field_with (local_name l) unset) f.locals), locals_cells f.locals)
 
-pub frame_cells : (f : Function) (given : List Value) (object : Object) → frame_object f given ≡ Some object → object_cells object ≡ own_cells f
+pub frame_cells : (f : Function) (given : List CValue) (object : Object) → frame_object f given ≡ Some object → object_cells object ≡ own_cells f
 frame_cells f given object e = subst (HasCells (own_cells f)) e (frame_has f given)

@@ -4,8 +4,8 @@ use Rattle.std.specs.Prelude.{if◌then◌else◌, nat_eq, nat_lt, option_and_th
 use Rattle.turns.specs.Run.{Next, Go, Turn, End, Out, Fail, Outcome, Got, More, Lost, onward, holding}
 use Rattle.c_text.specs.CTree.{ExprTree, Args, Code, finish, nested, empty, assign, call, jump, branch, repeat, select, leave, case_label, default_label, name_label, LocalTree}
 use Rattle.c_meaning.specs.declared.values.Pointer.{Pointer}
-use Rattle.c_meaning.specs.declared.values.Value.{Value}
-use Rattle.c_meaning.specs.declared.values.Value.TheVariants.{Numeric as numeric, Address as address, NullPointer as null_pointer}
+use Rattle.c_meaning.specs.declared.values.CValue.{CValue}
+use Rattle.c_meaning.specs.declared.values.CValue.TheVariants.{Numeric as numeric, Address as address, NullPointer as null_pointer}
 use Rattle.c_meaning.specs.CValues.{holds}
 use Rattle.c_meaning.specs.CMemory.{Memory, stored, zeroed}
 use Rattle.c_meaning.specs.CExprs.{value, place, pointed_place, arg_values, all_some}
@@ -118,7 +118,7 @@ module _ (of : List ℕ → ℕ) where
       if_good true met unmet h k = h
       if_good false met unmet h k = k
 
-      by_test_good : (o : Option Value) (met unmet : Next State Returned) → NextGood memory met → NextGood memory unmet → NextGood memory (by_test o met unmet)
+      by_test_good : (o : Option CValue) (met unmet : Next State Returned) → NextGood memory met → NextGood memory unmet → NextGood memory (by_test o met unmet)
       by_test_good None met unmet h k = tt
       by_test_good (Some v) met unmet h k = if_good (holds v) met unmet h k
 
@@ -138,14 +138,14 @@ module _ (of : List ℕ → ℕ) where
       enters_good None rest k w x = (same, x)
       enters_good (Some p) rest k w x = (same, w)
 
-      switches_good : (o : Option Value) (body rest : Code) (k : Continuation) → calls_from body (behind finish rest k) ≤ most → calls_from rest k ≤ most → NextGood memory (switches o body rest k memory)
+      switches_good : (o : Option CValue) (body rest : Code) (k : Continuation) → calls_from body (behind finish rest k) ≤ most → calls_from rest k ≤ most → NextGood memory (switches o body rest k memory)
       switches_good None body rest k w x = tt
       switches_good (Some (numeric n)) body rest k w x = enters_good (first_of (find (by_case n) body (behind finish rest k)) (find by_default body (behind finish rest k))) rest k
           (first_in most _ _ (found_in most (by_case n) body (behind finish rest k) w) (found_in most by_default body (behind finish rest k) w)) x
       switches_good (Some (address p)) body rest k w x = tt
       switches_good (Some null_pointer) body rest k w x = tt
 
-      assigned_by : (p : Option Pointer) (v : Option Value) → LeftBy StaysTyped memory (assigned memory p v)
+      assigned_by : (p : Option Pointer) (v : Option CValue) → LeftBy StaysTyped memory (assigned memory p v)
       assigned_by None v = tt
       assigned_by (Some p) None = tt
       assigned_by (Some p) (Some v) = typed_kept.stores memory ready p v
@@ -156,7 +156,7 @@ module _ (of : List ℕ → ℕ) where
       moves_by (Some to) (Some from) None = tt
       moves_by (Some to) (Some from) (Some n) = typed_kept.moves memory ready to from n
 
-      move_given_by : (given : List (Option Value)) → LeftBy StaysTyped memory (move_given memory given)
+      move_given_by : (given : List (Option CValue)) → LeftBy StaysTyped memory (move_given memory given)
       move_given_by [] = tt
       move_given_by (a ∷ []) = tt
       move_given_by (a ∷ b ∷ []) = tt
@@ -171,7 +171,7 @@ module _ (of : List ℕ → ℕ) where
           by_index true = typed_kept.sets memory ready p.object
           by_index false = tt
 
-      set_given_by : (given : List (Option Value)) → LeftBy StaysTyped memory (set_given memory given)
+      set_given_by : (given : List (Option CValue)) → LeftBy StaysTyped memory (set_given memory given)
       set_given_by [] = tt
       set_given_by (a ∷ others) = zeroes_by (pointed_place a)
 
@@ -179,11 +179,11 @@ module _ (of : List ℕ → ℕ) where
       kept_by None done h = h
       kept_by (Some target) done h = left_then memory done.memory _ h (by_value done.value)
         where
-          by_place : (v : Value) (p : Option Pointer) → LeftBy StaysTyped done.memory (option_and_then (λ q. stored done.memory q v) p)
+          by_place : (v : CValue) (p : Option Pointer) → LeftBy StaysTyped done.memory (option_and_then (λ q. stored done.memory q v) p)
           by_place v None = tt
           by_place v (Some p) = typed_kept.stores done.memory h.typed p v
 
-          by_value : (v : Option Value) → LeftBy StaysTyped done.memory (option_and_then (λ v. option_and_then (λ p. stored done.memory p v) (one_place (place (surroundings r memory) target) (place (surroundings r done.memory) target))) v)
+          by_value : (v : Option CValue) → LeftBy StaysTyped done.memory (option_and_then (λ v. option_and_then (λ p. stored done.memory p v) (one_place (place (surroundings r memory) target) (place (surroundings r done.memory) target))) v)
           by_value None = tt
           by_value (Some v) = by_place v (one_place (place (surroundings r memory) target) (place (surroundings r done.memory) target))
 
@@ -198,16 +198,16 @@ module _ (of : List ℕ → ℕ) where
       holding_good More on h f = tt
       holding_good Lost on h f = tt
 
-      calls_good : (n : ℕ) (target : Option ExprTree) (name : List ℕ) (given : Option (List Value)) (rest : Code) (k : Continuation) → calls_from rest k ≤ most → NextGood memory (calls r n target (r.callee name) given rest k memory)
+      calls_good : (n : ℕ) (target : Option ExprTree) (name : List ℕ) (given : Option (List CValue)) (rest : Code) (k : Continuation) → calls_from rest k ≤ most → NextGood memory (calls r n target (r.callee name) given rest k memory)
       calls_good n target name None rest k w = tt
       calls_good n target name (Some given) rest k w = holding_good (r.callee name n given memory) _ ((callees name).by n given memory ready) (λ left done a. goes_back_good n left rest k (kept r memory target done) w (kept_by target done a))
 
-      function_good : (c : Callee) (n : ℕ) (target : Option ExprTree) (name : List ℕ) (given : List (Option Value)) (rest : Code) (k : Continuation) → calls_from rest k ≤ most → NextGood memory (calls_function c r n target name given rest k memory)
+      function_good : (c : Callee) (n : ℕ) (target : Option ExprTree) (name : List ℕ) (given : List (Option CValue)) (rest : Code) (k : Continuation) → calls_from rest k ≤ most → NextGood memory (calls_function c r n target name given rest k memory)
       function_good memory_move n target name given rest k w = goes_on_good rest k (move_given memory given) w (move_given_by given)
       function_good memory_set n target name given rest k w = goes_on_good rest k (set_given memory given) w (set_given_by given)
       function_good own n target name given rest k w = calls_good n target name (all_some given) rest k w
 
-      returns_good : (n : ℕ) (v : Option Value) → NextGood memory (returns n memory v)
+      returns_good : (n : ℕ) (v : Option CValue) → NextGood memory (returns n memory v)
       returns_good n None = tt
       returns_good n (Some v) = tt
 
@@ -253,7 +253,7 @@ module _ (r : Running) where
   initial_by memory ready field None = typed_kept.same memory ready
   initial_by memory ready field (Some e) = by_value (value (surroundings r memory) e)
     where
-      by_value : (v : Option Value) → LeftBy StaysTyped memory (option_and_then (stored memory (record { object = r.frame; field = field; index = 0 })) v)
+      by_value : (v : Option CValue) → LeftBy StaysTyped memory (option_and_then (stored memory (record { object = r.frame; field = field; index = 0 })) v)
       by_value None = tt
       by_value (Some v) = typed_kept.stores memory ready (record { object = r.frame; field = field; index = 0 }) v
 

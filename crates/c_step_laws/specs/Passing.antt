@@ -7,7 +7,7 @@ use Rattle.wf_text.specs.Surface.{Surface}
 use Rattle.c_text.specs.declared.kinds.Linkage.{Linkage}
 use Rattle.c_text.specs.declared.kinds.Linkage.TheVariants.{External, Static, StaticInline}
 use Rattle.c_text.specs.CTree.{ExprTree, number, variable, member, element, pointed, operation, unary, cast, choice, called, Operands, no_operand, operand, Args, no_arg, expr_arg, sizeof_arg, Code, finish, nested, empty, assign, call, jump, branch, repeat, select, leave, case_label, default_label, name_label, LocalTree, ItemTree}
-use Rattle.c_meaning.specs.declared.values.Value.{Value}
+use Rattle.c_meaning.specs.declared.values.CValue.{CValue}
 use Rattle.c_meaning.specs.CMemory.{Field, cells, part, Object, Memory}
 use Rattle.c_meaning.specs.CTypes.{Function, returned}
 use Rattle.c_meaning.specs.CExprs.{Surroundings, arg_values, all_some}
@@ -50,14 +50,14 @@ abbrev mutual
 
 -- The value of an expression: each call whose arguments have values. `passes` are the memories of functions in expressions, by
 -- the function's name, the memory that it finds and its arguments.
-pub record ValuePasses (s : Surroundings) (passes : List ℕ → Memory → List Value → Memory → Type 0) (e : ExprTree) (now : Memory) : Type 0 where
+pub record ValuePasses (s : Surroundings) (passes : List ℕ → Memory → List CValue → Memory → Type 0) (e : ExprTree) (now : Memory) : Type 0 where
   pub it : CallTree
   pub stands : IsIn it (calls_in e)
-  pub values : List Value
+  pub values : List CValue
   pub given : all_some (arg_values s it.given) ≡ Some values
   pub there : passes it.function s.memory values now
 
-abbrev pub OptionalPasses : Surroundings → (List ℕ → Memory → List Value → Memory → Type 0) → Option ExprTree → Memory → Type 0
+abbrev pub OptionalPasses : Surroundings → (List ℕ → Memory → List CValue → Memory → Type 0) → Option ExprTree → Memory → Type 0
 OptionalPasses s passes None now = ⊥
 OptionalPasses s passes (Some e) now = ValuePasses s passes e now
 
@@ -70,13 +70,13 @@ OneOrOther false one other = other
 abbrev pub inline_surroundings : Program → Function → (List ℕ → ExprMeaning) → (frame : ℕ) → Memory → Surroundings
 inline_surroundings p f callee frame memory = record { scope = scope_in p f; frame = frame; memory = memory; called = λ name. callee name memory }
 
-pub record InlinePasses (p : Program) (f : Function) (callee : List ℕ → ExprMeaning) (passes : List ℕ → Memory → List Value → Memory → Type 0) (memory : Memory) (given : List Value) (now : Memory) : Type 0 where
+pub record InlinePasses (p : Program) (f : Function) (callee : List ℕ → ExprMeaning) (passes : List ℕ → Memory → List CValue → Memory → Type 0) (memory : Memory) (given : List CValue) (now : Memory) : Type 0 where
   pub object : Object
   pub is : passed f.params given ≡ Some object
   pub there : (now ≡ memory ++ object ∷ []) ⊎ OptionalPasses (inline_surroundings p f callee (length memory) (memory ++ object ∷ [])) passes (returned f.body) now
 
 -- The function of this name among so many, the last one first.
-abbrev pub ExpressionPasses : Program → List Function → List ℕ → Memory → List Value → Memory → Type 0
+abbrev pub ExpressionPasses : Program → List Function → List ℕ → Memory → List CValue → Memory → Type 0
 ExpressionPasses p [] name memory given now = ⊥
 ExpressionPasses p (f ∷ fs) name memory given now = OneOrOther (bytes_eq f.name name) (InlinePasses p f (expression_call p fs) (ExpressionPasses p fs) memory given now) (ExpressionPasses p fs name memory given now)
 
@@ -115,7 +115,7 @@ pub record CallsNow (r : Running) (code : Code) (memory : Memory) : Type 0 where
   pub rest : Code
   pub is : code ≡ call target function given rest
   pub of_text : callee_of function ≡ own
-  pub values : List Value
+  pub values : List CValue
   pub given_is : all_some (arg_values (surroundings r memory) given) ≡ Some values
 
 -- The function that it calls has returned, and its value goes to the target.
@@ -127,7 +127,7 @@ pub record KeepsNow (r : Running) (turns : ℕ) (code : Code) (memory : Memory) 
 
 -- A statement: its memory, those of its expressions, those of the function that it calls, and those of the call's target when that
 -- has returned. `in_calls` are the memories of functions, by name, turns, arguments and the memory that they find.
-pub data StatementPasses (r : Running) (in_exprs : List ℕ → Memory → List Value → Memory → Type 0) (in_calls : List ℕ → ℕ → List Value → Memory → Memory → Type 0) (turns : ℕ) (s : State) (now : Memory) : Type 0 where
+pub data StatementPasses (r : Running) (in_exprs : List ℕ → Memory → List CValue → Memory → Type 0) (in_calls : List ℕ → ℕ → List CValue → Memory → Memory → Type 0) (turns : ℕ) (s : State) (now : Memory) : Type 0 where
   here : now ≡ s.memory → StatementPasses r in_exprs in_calls turns s now
   expression : (e : ExprTree) → IsIn e (exprs_at s.place.code s.place.continuation) → ValuePasses (surroundings r s.memory) in_exprs e now → StatementPasses r in_exprs in_calls turns s now
   callee : (it : CallsNow r s.place.code s.memory) → in_calls it.function turns it.values s.memory now → StatementPasses r in_exprs in_calls turns s now
@@ -150,12 +150,12 @@ after_steps r zero m = Some m
 after_steps r (suc k) m = option_and_then (after_steps r k) (next_moment m.turns (step r m.turns m.state))
 
 -- The locals that have no value yet: the memory that they find, and those of the first one's initial value.
-abbrev pub InitialsPass : Running → (List ℕ → Memory → List Value → Memory → Type 0) → List LocalTree → Memory → Memory → Type 0
+abbrev pub InitialsPass : Running → (List ℕ → Memory → List CValue → Memory → Type 0) → List LocalTree → Memory → Memory → Type 0
 InitialsPass r passes [] memory now = now ≡ memory
 InitialsPass r passes (l ∷ ls) memory now = (now ≡ memory) ⊎ OptionalPasses (surroundings r memory) passes l.initial now
 
 -- A function that has been entered: while its locals get their initial values, and in its body.
-pub data BodyPasses (r : Running) (f : Function) (in_exprs : List ℕ → Memory → List Value → Memory → Type 0) (in_calls : List ℕ → ℕ → List Value → Memory → Memory → Type 0) (turns : ℕ) (entered now : Memory) : Type 0 where
+pub data BodyPasses (r : Running) (f : Function) (in_exprs : List ℕ → Memory → List CValue → Memory → Type 0) (in_calls : List ℕ → ℕ → List CValue → Memory → Memory → Type 0) (turns : ℕ) (entered now : Memory) : Type 0 where
   begins : (k : ℕ) (memory : Memory) → initialized r (length f.params) (take k f.locals) entered ≡ Some memory → InitialsPass r in_exprs (drop k f.locals) memory now → BodyPasses r f in_exprs in_calls turns entered now
   goes : (memory : Memory) (steps : ℕ) (m : Moment) → initialized r (length f.params) f.locals entered ≡ Some memory → after_steps r steps (record { turns = turns; state = state f.body stop memory }) ≡ Some m
       → StatementPasses r in_exprs in_calls m.turns m.state now → BodyPasses r f in_exprs in_calls turns entered now
@@ -166,7 +166,7 @@ Enters External before turns = before ≡ turns
 Enters Static before turns = before ≡ suc turns
 Enters StaticInline before turns = before ≡ turns
 
-pub record FunctionPasses (p : Program) (f : Function) (values : List ℕ → ExprMeaning) (meanings : List ℕ → Meaning) (in_exprs : List ℕ → Memory → List Value → Memory → Type 0) (in_calls : List ℕ → ℕ → List Value → Memory → Memory → Type 0) (n : ℕ) (given : List Value) (memory now : Memory) : Type 0 where
+pub record FunctionPasses (p : Program) (f : Function) (values : List ℕ → ExprMeaning) (meanings : List ℕ → Meaning) (in_exprs : List ℕ → Memory → List CValue → Memory → Type 0) (in_calls : List ℕ → ℕ → List CValue → Memory → Memory → Type 0) (n : ℕ) (given : List CValue) (memory now : Memory) : Type 0 where
   pub turns : ℕ
   pub enters : Enters f.linkage n turns
   pub object : Object
@@ -174,18 +174,18 @@ pub record FunctionPasses (p : Program) (f : Function) (values : List ℕ → Ex
   pub there : BodyPasses (running p f values meanings (length memory)) f in_exprs in_calls turns (memory ++ object ∷ []) now
 
 -- The function of this name among so many, the last one first.
-abbrev pub CallPasses : Program → List Function → List ℕ → (turns : ℕ) → List Value → Memory → Memory → Type 0
+abbrev pub CallPasses : Program → List Function → List ℕ → (turns : ℕ) → List CValue → Memory → Memory → Type 0
 CallPasses p [] name n given memory now = ⊥
 CallPasses p (f ∷ fs) name n given memory now = OneOrOther (bytes_eq f.name name) (FunctionPasses p f (expression_call p fs) (call_of p fs) (ExpressionPasses p fs) (CallPasses p fs) n given memory now) (CallPasses p fs name n given memory now)
 
 -- A host's call.
-abbrev pub HostPasses : Program → List ℕ → (turns : ℕ) → List Value → Memory → Memory → Type 0
+abbrev pub HostPasses : Program → List ℕ → (turns : ℕ) → List CValue → Memory → Memory → Type 0
 HostPasses p name n given memory now = CallPasses p p.functions name n given memory now
 
 -- A call that returns passes through what it leaves: the memory in which its last statement is executed, of which the objects that
 -- were there before are left.
 abbrev pub CallsPassToTheirEnds : Type 0
-CallsPassToTheirEnds = (p : Program) (name : List ℕ) (turns left : ℕ) (given : List Value) (memory : Memory) (done : Returned) → host_call p name turns given memory ≡ Got left done
+CallsPassToTheirEnds = (p : Program) (name : List ℕ) (turns left : ℕ) (given : List CValue) (memory : Memory) (done : Returned) → host_call p name turns given memory ≡ Got left done
     → (now : Memory) × HostPasses p name turns given memory now × (done.memory ≡ take (length memory) now)
 
 -- How many cells objects have.
@@ -206,5 +206,5 @@ memory_cells (object ∷ objects) = object_cells object + memory_cells objects
 abbrev pub CellsAreEnough : Type 0
 CellsAreEnough = (surface : Surface) (items : List ItemTree) → HasUnitForm surface items
     → (name : List ℕ) (f : Placed) → last_named (program_of items).functions name ≡ Some f → f.function.linkage ≡ External
-    → (turns : ℕ) (given : List Value) (memory now : Memory) → IsTyped memory → HostPasses (program_of items) name turns given memory now
+    → (turns : ℕ) (given : List CValue) (memory now : Memory) → IsTyped memory → HostPasses (program_of items) name turns given memory now
     → memory_cells (drop (length memory) now) ≤ program_cells (program_of items)

@@ -3,7 +3,7 @@
 ghost use Rattle.std.specs.Prelude.{◌≡◌, [], ◌∷◌, map, codes};
 ghost use Rattle.c_meaning.specs.CTypes.{functions_of};
 ghost use Rattle.c_meaning.specs.CCall.{program_of};
-ghost use Rattle.c_meaning.specs.declared.values.Value.TheVariants.{NullPointer as null_pointer};
+ghost use Rattle.c_meaning.specs.declared.values.CValue.TheVariants.{NullPointer as null_pointer};
 ghost use Rattle.c_meaning.specs.PartsText.{parts_text};
 ghost use Rattle.c_meaning.specs.UnitForm.{HasUnitForm};
 ghost use Rattle.c_step_laws.specs.CallChains.{program_cells, own_cells};

@@ -3,8 +3,8 @@
 ghost use Rattle.c_step_laws.specs.CallChains.{CellsAreOfChains, PublicAreExternal};
 ghost use Rattle.c_step_laws.specs.Passing.{CellsAreEnough, CallsPassToTheirEnds};
 
-/// In a text of the unit form the number of cells that a machine tells is the greatest number of parameters and locals
-/// together along a chain of calls that begins at an external function, by what the text's tree calls.
+/// In a text of the unit form a machine tells as many cells as the functions of one chain of calls have parameters and locals,
+/// at most, where the chain begins at an external function and goes by what the text's tree calls.
 pub fn cells_are_those_of_the_greatest_chain()
     ensures { CellsAreOfChains }
 {}

@@ -3,7 +3,7 @@ use Rattle.std.proofs.Common.{◌≡◌, ℕ, ◌+◌, Bool, List, [], ◌∷◌
 use Rattle.std.proofs.lemmas.List.{append-nil, length-append}
 use Rattle.c_text.specs.CTree.{TypeTree, ExprTree, Code, leave, finish}
 use Rattle.c_text.specs.CNodes.{Nodes}
-use Rattle.c_meaning.specs.CTypes.{Function, Scope, returned}
+use Rattle.c_meaning.specs.CTypes.{Function, CScope, returned}
 use Rattle.c_meaning.specs.CExprs.{cell_type}
 use Rattle.c_meaning.specs.CStep.{code_weight}
 use Rattle.c_meaning.specs.CCall.{scope_in}
@@ -53,7 +53,7 @@ inline_is names place to body type it r end is = is ∙ (ap (λ (n : ℕ). inlin
 
 -- A function more.
 module _ (nodes : Nodes) (f : Function) (callable : List Function) (c : CodeView) where
-  abbrev Scope_ : Scope
+  abbrev Scope_ : CScope
   Scope_ = scope_in (program_in nodes) f
 
   text_built : (t new : FlatText) (number next : ℕ) → t ≡ c.text → number ≡ length t.statements → next ≡ number + code_weight f.body + 0 → new ≡ with_body (names_by nodes f callable number) t number next f.body (initial_exprs Scope_ f.locals) → new ≡ (with_function (program_in nodes) f callable c).text

@@ -45,26 +45,6 @@ declared_front w new name kind e = ap (λ (x : Within). x.front) e
 pub declared_names : (w new : Within) (name : List ℕ) (kind : CType) → new ≡ record w { names = w.names ++ (name, kind) ∷ [] } → (scope_in new).names ≡ (scope_in w).names ++ record { kind = type_in w.front.nodes.names kind; name = name } ∷ []
 declared_names w new name kind e = ap (λ (x : Within). (scope_in x).names) e ∙ map-append (entry_param w.front.nodes.names) w.names ((name, kind) ∷ [])
 
--- Names that are new, the first of them and the others.
-first_new : (a b : Bool) → (not a && b) ≡ true → a ≡ false
-first_new false b e = refl
-first_new true b e = absurd (cc (e))
-
-others_new : (a b : Bool) → (not a && b) ≡ true → b ≡ true
-others_new false b e = e
-others_new true b e = absurd (cc (e))
-
-pub new_here : (seen ps rest : List ParamTree) (p : ParamTree) → ps ≡ p ∷ rest → are_new (names_at seen) (names_at ps) ≡ true → is_among (names_at seen) p.name ≡ false
-new_here seen ps rest p is h = first_new (is_among (names_at seen) p.name) _ (subst (λ (qs : List ParamTree). are_new (names_at seen) (names_at qs) ≡ true) is h)
-
-pub new_rest : (seen now ps rest : List ParamTree) (p : ParamTree) → ps ≡ p ∷ rest → now ≡ seen ++ p ∷ [] → are_new (names_at seen) (names_at ps) ≡ true → are_new (names_at now) (names_at rest) ≡ true
-new_rest seen now ps rest p is more h =
-    let further : are_new (names_at seen ++ p.name ∷ []) (names_at rest) ≡ true = others_new (is_among (names_at seen) p.name) _ (subst (λ (qs : List ParamTree). are_new (names_at seen) (names_at qs) ≡ true) is h) in
-    subst (λ (ns : List (List ℕ)). are_new ns (names_at rest) ≡ true) (sym (ap names_at more ∙ map-append (λ (it : ParamTree). it.name) seen (p ∷ []))) further
-
-pub names_rest : (seen now ps rest total : List ParamTree) (p : ParamTree) → ps ≡ p ∷ rest → now ≡ seen ++ p ∷ [] → seen ++ ps ≡ total → now ++ rest ≡ total
-names_rest seen now ps rest total p is more h = ap (λ (qs : List ParamTree). qs ++ rest) more ∙ (append_assoc seen (p ∷ []) rest ∙ (ap (λ (qs : List ParamTree). seen ++ qs) (sym is) ∙ h))
-
 -- Both parameters and locals have new names, where all differ.
 both_left : (a b : Bool) → (a && b) ≡ true → a ≡ true
 both_left true b e = refl

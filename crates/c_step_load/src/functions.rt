@@ -1,6 +1,6 @@
 // A function of a unit (ISO/IEC 9899:1999, 6.9.1): the names in its expressions, and its value in an expression.
 
-ghost use Rattle.std.specs.Prelude.{◌≡◌, ◌<◌, ◌++◌, ◌∷◌, [], ℕ, List, false, true, length, map, is_some, option_map, IfOk, OnOk};
+ghost use Rattle.std.specs.Prelude.{◌≡◌, ◌<◌, ◌++◌, ◌∷◌, [], false, true, length, map, is_some, option_map, IfOk, OnOk};
 ghost use Rattle.c_text.specs.CNodes.{bytes_at, type_in, param_tree, local_tree, expr_of, code_of};
 ghost use Rattle.c_text.specs.CFits.{HasName, HasType, HasParams, HasLocals};
 ghost use Rattle.c_text.specs.CGrammar.{is_finish};
@@ -12,7 +12,7 @@ ghost use Rattle.c_form_stmts.specs.Names.{are_new};
 ghost use Rattle.c_step_run.specs.Coding.{is_static, inline_length as inline_length_of};
 ghost use Rattle.c_step_load.specs.Loading.{own_names, inline_by};
 
-use c_form_exprs::{Front, Scope};
+use c_form_exprs::{CScope, Front};
 use c_form_stmts::Parts;
 use c_step_load_exprs::{Numbers, cell_type};
 use c_step_places::Weighed;
@@ -36,7 +36,7 @@ pub(crate) struct Known<'k, 'u> {
 }
 
 /// Adds a parameter or local, whose name is new.
-fn declare<'k, 'u>(scope: &mut Scope<'k, 'u>, name: CNameId, kind: CType) -> Result<(), NoMemory>
+fn declare<'k, 'u>(scope: &mut CScope<'k, 'u>, name: CNameId, kind: CType) -> Result<(), NoMemory>
     requires name { HasName scope.old.front.nodes name }
     requires kind { HasType scope.old.front.nodes kind }
     requires fresh { is_among (map (λ it. it.name) (scope_in scope.old).names) (bytes_at scope.old.front.nodes.names name.0) ≡ false }
@@ -48,7 +48,7 @@ fn declare<'k, 'u>(scope: &mut Scope<'k, 'u>, name: CNameId, kind: CType) -> Res
 }
 
 /// Adds parameters, whose names are new.
-fn declare_params<'k, 'u>(scope: &mut Scope<'k, 'u>, params: &[CParam]) -> Result<(), NoMemory>
+fn declare_params<'k, 'u>(scope: &mut CScope<'k, 'u>, params: &[CParam]) -> Result<(), NoMemory>
     requires params { HasParams scope.old.front.nodes params.now }
     requires fresh { are_new (map (λ it. it.name) (scope_in scope.old).names) (map (λ it. it.name) (map (param_tree scope.old.front.nodes.names) params.now)) ≡ true }
     ensures front { OnOk result (scope.new.front ≡ scope.old.front) }
@@ -61,7 +61,7 @@ fn declare_params<'k, 'u>(scope: &mut Scope<'k, 'u>, params: &[CParam]) -> Resul
 }
 
 /// Adds locals, whose names are new.
-fn declare_locals<'k, 'u>(scope: &mut Scope<'k, 'u>, locals: &[CLocal]) -> Result<(), NoMemory>
+fn declare_locals<'k, 'u>(scope: &mut CScope<'k, 'u>, locals: &[CLocal]) -> Result<(), NoMemory>
     requires locals { HasLocals scope.old.front.nodes locals.now }
     requires fresh { are_new (map (λ it. it.name) (scope_in scope.old).names) (map (λ it. it.name) (map local_name (map (local_tree scope.old.front.nodes.names (expr_of scope.old.front.nodes)) locals.now))) ≡ true }
     ensures front { OnOk result (scope.new.front ≡ scope.old.front) }
@@ -78,13 +78,13 @@ pub(crate) fn scope_of<'k, 'u>(
     alloc: Global,
     front: &'k Front<'u>,
     parts: Parts<'_>,
-) -> Result<Scope<'k, 'u>, NoMemory>
+) -> Result<CScope<'k, 'u>, NoMemory>
     requires parts { HasParts front.now.nodes parts }
     requires own { all_distinct (map (λ it. it.name) (own_names front.now.nodes parts)) ≡ true }
     ensures front { IfOk result (λ scope. scope.front ≡ front.now) }
     ensures names { IfOk result (λ scope. (scope_in scope).names ≡ own_names front.now.nodes parts.entry) }
 {
-    let mut scope = Scope::new(alloc, front);
+    let mut scope = CScope::new(alloc, front);
     declare_params(&mut scope, parts.params)?;
     declare_locals(&mut scope, parts.locals)?;
     Ok(scope)

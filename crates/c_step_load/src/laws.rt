@@ -1,9 +1,7 @@
 // What the unit form says of a text's names, for a loader.
 
-ghost use Rattle.std.specs.Prelude.{◌≡◌, ℕ, List};
 ghost use Rattle.c_text.specs.CNodes.{unit_tree};
 ghost use Rattle.c_meaning.specs.CCall.{program_of};
-ghost use Rattle.c_step_exprs.specs.Resolving.{function_number};
 ghost use Rattle.c_step_load_exprs.specs.Knowing.{AreAlike};
 ghost use Rattle.c_step_program.specs.Programs.{AreApart};
 

@@ -1,19 +1,17 @@
 // The functions of a unit, one after the other (ISO/IEC 9899:1999, 6.9).
 
-ghost use Rattle.std.specs.Prelude.{◌≡◌, ◌<◌, ◌+◌, ◌++◌, ◌∷◌, [], ℕ, List, true, length, map, option_map, IfOk, OnOk};
-ghost use Rattle.c_text.specs.CNodes.{type_in, local_tree, expr_of, code_of as body_of, unit_tree};
-ghost use Rattle.c_meaning.specs.CTypes.{Function, returned};
-ghost use Rattle.c_meaning.specs.CStep.{code_weight};
+ghost use Rattle.std.specs.Prelude.{◌≡◌, ◌<◌, ◌+◌, ◌++◌, ◌∷◌, [], List, true, length, map, IfOk, OnOk};
+ghost use Rattle.c_text.specs.CNodes.{local_tree, expr_of, code_of as body_of, unit_tree};
+ghost use Rattle.c_meaning.specs.CTypes.{Function};
 ghost use Rattle.c_meaning.specs.CCall.{program_of, scope_in};
 ghost use Rattle.c_meaning.specs.UnitForm.{all_distinct};
 ghost use Rattle.c_form_stmts.specs.Functions.{HasParts};
 ghost use Rattle.c_step_text.specs.Layout.{Names as NamesOf, go};
 ghost use Rattle.c_step_text.specs.Emitted.{exprs_of};
-ghost use Rattle.c_step_text.specs.Flat.{flat_text};
-ghost use Rattle.c_step_load_stmts.specs.Bodies.{nodes_of, scope_of as names_scope, Fits, Tells};
-ghost use Rattle.c_step_run.specs.Coding.{CodeView, is_static, inline_length as inline_length_of};
+ghost use Rattle.c_step_load_stmts.specs.Bodies.{nodes_of, Fits, Tells};
+ghost use Rattle.c_step_run.specs.Coding.{CodeView, inline_length as inline_length_of};
 ghost use Rattle.c_step_program.specs.Programs.{initial_exprs, initials_of, with_function, no_code, code_of};
-ghost use Rattle.c_step_load.specs.Loading.{nodes_in, program_in, own_names, IsKnown, IsFunction, names_by, with_body, inline_by, IsBuilt, code_before};
+ghost use Rattle.c_step_load.specs.Loading.{nodes_in, program_in, own_names, IsKnown, IsFunction, names_by, with_body, IsBuilt, code_before};
 
 use crate::functions::{Known, inline, inline_length, scope_of, takes_turn};
 use crate::initials::put_initials;

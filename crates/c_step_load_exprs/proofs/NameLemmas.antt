@@ -7,7 +7,7 @@ use Rattle.c_text.specs.CTree.{TypeTree, uint, size, boolean, uint_pointer, stru
 use Rattle.c_text.specs.CNodes.{Nodes, unit_tree}
 use Rattle.c_text.specs.CFits.{HasParam, HasParams}
 use Rattle.c_text.proofs.Parts.{no_param}
-use Rattle.c_meaning.specs.CTypes.{StructDecl, TextDecl, Scope, structs_of, texts_of, functions_of, struct_named, function_named, field_named, variable_held, member_held, field_held, cast_from, is_known, value_type, ExprType, numbers, points_to, zero_literal, cell, object, byte}
+use Rattle.c_meaning.specs.CTypes.{StructDecl, TextDecl, CScope, structs_of, texts_of, functions_of, struct_named, function_named, field_named, variable_held, member_held, field_held, cast_from, is_known, value_type, ExprType, numbers, points_to, zero_literal, cell, object, byte}
 use Rattle.c_meaning.specs.CExprs.{field_number}
 use Rattle.c_form_exprs.specs.declared.front.Head.{Head}
 use Rattle.c_form_exprs.specs.declared.types.ExprType.{ExprType as TypeOf}
@@ -78,7 +78,7 @@ module _ (w : Within) (numbered : Nodes) (k : Knows w numbered) where
       ∙ ap (λ (o : Option StructDecl). option_and_then (λ it. position (λ f. bytes_eq f.name field) it.fields) o) (sym (k.alike.structs name)))
 
 -- The value of a name.
-pub local_value : (scope : Scope) (q : List ℕ) (r : Option ℕ) (k : ℕ) (string : Option ℕ) → r ≡ position (λ it. bytes_eq it.name q) scope.names → r ≡ Some k → does.Put (put.Fetch k) ∷ [] ≡ variable_code (variable_held scope q) (position (λ it. bytes_eq it.name q) scope.names) string
+pub local_value : (scope : CScope) (q : List ℕ) (r : Option ℕ) (k : ℕ) (string : Option ℕ) → r ≡ position (λ it. bytes_eq it.name q) scope.names → r ≡ Some k → does.Put (put.Fetch k) ∷ [] ≡ variable_code (variable_held scope q) (position (λ it. bytes_eq it.name q) scope.names) string
 local_value scope q r k string e f =
     let at : position (λ it. bytes_eq it.name q) scope.names ≡ Some k = sym e ∙ f in
     let found = place_found (λ (it : ParamTree). bytes_eq it.name q) scope.names k at in

@@ -4,7 +4,7 @@ use Rattle.c_text.specs.declared.nodes.CArg.{CArg}
 use Rattle.c_text.specs.declared.nodes.CArg.TheVariants as arg
 use Rattle.c_text.specs.CTree.{ExprTree, number, variable, member, element, pointed, operation, unary, cast, choice, called, ParamTree}
 use Rattle.c_text.specs.CNodes.{Nodes, expr_of}
-use Rattle.c_meaning.specs.CTypes.{Scope, ExprType, type_of, member_held, element_held}
+use Rattle.c_meaning.specs.CTypes.{CScope, ExprType, type_of, member_held, element_held}
 use Rattle.c_meaning.specs.CExprs.{field_number}
 use Rattle.c_step_exprs.specs.declared.instrs.Instr.{Instr}
 use Rattle.c_step_exprs.specs.declared.instrs.Instr.TheVariants as does
@@ -15,14 +15,14 @@ use Rattle.c_step_exprs.specs.Resolving.{value_code, field_code, held_code, as_t
 use Rattle.c_form_exprs.specs.Spines.{fits_type}
 
 -- `->field`, by the type of what stands before it; `[index]`, by both types.
-abbrev pub member_code : Scope → (field : List ℕ) → Option ExprType → List Instr
+abbrev pub member_code : CScope → (field : List ℕ) → Option ExprType → List Instr
 member_code scope field type = field_code (field_number scope field type) ++ held_code (member_held scope field type)
 
-abbrev pub element_code : Scope → ExprTree → Option ExprType → List Instr
+abbrev pub element_code : CScope → ExprTree → Option ExprType → List Instr
 element_code scope index type = value_code scope index ++ does.Join join.Element ∷ held_code (element_held type (type_of scope index))
 
 -- What stands after the first part of `of->field` and of `of[index]`.
-abbrev pub link_code : Scope → ExprTree → List Instr
+abbrev pub link_code : CScope → ExprTree → List Instr
 link_code scope (member of field) = member_code scope field (type_of scope of)
 link_code scope (element of index) = element_code scope index (type_of scope of)
 link_code scope (number n) = []
@@ -35,7 +35,7 @@ link_code scope (choice test met unmet) = []
 link_code scope (called function given) = []
 
 -- An argument.
-abbrev pub arg_code : Nodes → Scope → CArg → List Instr
+abbrev pub arg_code : Nodes → CScope → CArg → List Instr
 arg_code nodes scope (arg.Expr e) = value_code scope (expr_of nodes e.0)
 arg_code nodes scope (arg.SizeOf n) = does.Stuck ∷ []
 

@@ -2,7 +2,7 @@
 use Rattle.std.specs.Prelude.{◌≡◌, ℕ, List, length, map, position, reverse, slice_get, Some, bytes_eq}
 use Rattle.c_text.specs.CTree.{ItemTree}
 use Rattle.c_text.specs.CNodes.{Nodes, unit_tree}
-use Rattle.c_meaning.specs.CTypes.{StructDecl, Scope, structs_of, texts_of, functions_of, struct_named, function_named}
+use Rattle.c_meaning.specs.CTypes.{StructDecl, CScope, structs_of, texts_of, functions_of, struct_named, function_named}
 use Rattle.c_step_exprs.specs.Resolving.{function_number}
 use Rattle.c_form_exprs.specs.Tables.{named}
 use Rattle.c_form_exprs.specs.Front.{Within, Tells, entry_param}
@@ -41,7 +41,7 @@ pub record AreAlike (items : List ItemTree) : Type 0 where
   pub numbers : (name : List ℕ) → function_number (reverse (functions_of items)) name ≡ position (λ f. bytes_eq f.name name) (functions_of items)
 
 -- The scope of a function of the program that a unit is, by the names of the function's parameters and locals.
-abbrev pub program_scope : Within → Scope
+abbrev pub program_scope : Within → CScope
 program_scope within = record {
   structs = reverse (structs_of (unit_tree within.front.nodes));
   texts = texts_of (unit_tree within.front.nodes);

@@ -1,12 +1,12 @@
 // Single instructions, and how they come to stand at the end of a list.
 
-ghost use Rattle.std.specs.Prelude.{◌≡◌, ◌<◌, ◌∷◌, ◌++◌, [], ℕ, List, length, map, option_map, OnOk};
+ghost use Rattle.std.specs.Prelude.{◌≡◌, ◌<◌, ◌∷◌, ◌++◌, [], ℕ, List, length, option_map, OnOk};
 ghost use Rattle.c_text.specs.CNodes.{type_in};
 ghost use Rattle.c_meaning.specs.CValues.{literal_number};
-ghost use Rattle.c_meaning.specs.CExprs.{cell_type as cell_type_of, is_object_pointer, combination_of};
+ghost use Rattle.c_meaning.specs.CExprs.{cell_type as cell_type_of, is_object_pointer};
 ghost use Rattle.c_form_exprs.specs.TypeViews.{value_in, held_in};
 ghost use Rattle.c_step_exprs.specs.declared.instrs.Instr.{Instr as InstrOf};
-ghost use Rattle.c_step_exprs.specs.Resolving.{named_code, held_code, field_code, address_code, as_type_code, call_code};
+ghost use Rattle.c_step_exprs.specs.Resolving.{named_code, held_code, field_code, address_code, call_code};
 
 use c_form_exprs::{ExprType, Held, Target};
 use c_meaning::cells::CellType;

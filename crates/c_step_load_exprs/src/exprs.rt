@@ -1,10 +1,10 @@
 // The instructions of an expression (ISO/IEC 9899:1999, 6.5), put while its type is told. What no bracket bounds, as
 // `a->b->b` and the operands of a repeated operator, is gone through in loops; the rest is recursion.
 
-ghost use Rattle.std.specs.Prelude.{◌≡◌, ◌≤◌, ◌<◌, ◌∷◌, ◌++◌, [], ℕ, Bool, length, map, Option, Some, None, option_map, option_and_then, IfOk, IfSome, OnOk};
+ghost use Rattle.std.specs.Prelude.{◌≡◌, ◌≤◌, ◌<◌, ◌∷◌, ◌++◌, [], length, map, Option, Some, None, option_map, option_and_then, IfOk, IfSome, OnOk};
 ghost use Rattle.c_text.specs.CTree.{ExprTree, choice as choice_tree, operation as operation_tree};
-ghost use Rattle.c_text.specs.CNodes.{bytes_at, expr_of, type_in, operands_in, args_in, param_tree, made_expr};
-ghost use Rattle.c_text.specs.CFits.{HasExprs, HasArg, HasArgs, HasCall, HasParams, HasType, HasName};
+ghost use Rattle.c_text.specs.CNodes.{bytes_at, expr_of, type_in, operands_in, args_in, param_tree};
+ghost use Rattle.c_text.specs.CFits.{HasExprs, HasArg, HasArgs, HasCall, HasParams, HasType};
 ghost use Rattle.c_meaning.specs.CTypes.{type_of, held_of, operand_types, operations_type, arg_types, passable, called_type, function_named, unary_type, held_type, element_held, pointed_held, cast_from, choice_type};
 ghost use Rattle.c_meaning.specs.CExprs.{cell_type as cell_type_of, combination_of};
 ghost use Rattle.c_form_exprs.specs.Spines.{link_of, arg_type};

@@ -11,14 +11,14 @@ ghost use Rattle.c_step_exprs.specs.Resolving.{function_number};
 ghost use Rattle.c_step_load_exprs.specs.Knowing.{program_scope, Knows};
 
 use crate::numbers::Numbers;
-use c_form_exprs::{ExprType, Head, Held, Scope, Target};
+use c_form_exprs::{CScope, ExprType, Head, Held, Target};
 use c_text::{CNameId, CType};
 
 /// What all items of a text declare, with the parameters and locals of a function, and the numbers of all.
 #[derive(Clone, Copy)]
 pub struct Names<'r, 'k, 'u> {
     /// What is declared.
-    pub scope: &'r Scope<'k, 'u>,
+    pub scope: &'r CScope<'k, 'u>,
     /// The numbers.
     pub numbers: &'r Numbers<'u>,
 }

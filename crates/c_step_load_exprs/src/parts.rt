@@ -1,6 +1,6 @@
 // Parts of expressions, once the types of what stands in them are known.
 
-ghost use Rattle.std.specs.Prelude.{◌≡◌, ◌<◌, ◌≤◌, ◌∷◌, ◌++◌, ◌+◌, [], ℕ, List, drop, length, map, option_map, option_and_then, Option, Some, IfOk, IfSome, OnOk};
+ghost use Rattle.std.specs.Prelude.{◌≡◌, ◌<◌, ◌∷◌, ◌++◌, ◌+◌, [], ℕ, List, drop, length, map, option_map, option_and_then, Option, Some, IfOk, IfSome, OnOk};
 ghost use Rattle.c_text.specs.CTree.{variable};
 ghost use Rattle.c_text.specs.CNodes.{bytes_at, param_tree};
 ghost use Rattle.c_text.specs.CFits.{HasName, HasType, HasParam, HasParams};

@@ -6,7 +6,7 @@ use Rattle.c_text.specs.declared.ids.CStmtId.{CStmtId}
 use Rattle.c_text.specs.declared.kinds.Otherwise.{Otherwise}
 use Rattle.c_text.specs.CTree.{ExprTree, Args, Code, empty, assign, call, jump, branch, leave}
 use Rattle.c_text.specs.CNodes.{Nodes, code_of}
-use Rattle.c_meaning.specs.CTypes.{Scope}
+use Rattle.c_meaning.specs.CTypes.{CScope}
 use Rattle.c_meaning.specs.CStep.{callee_of}
 use Rattle.c_step_exprs.specs.Resolving.{value_code, place_code}
 use Rattle.c_step_text.specs.declared.text.Span.{Span}
@@ -27,7 +27,7 @@ pub on_two : {A : Type 0} (r : Result A NoMemory) (P Q R : Type 0) → (P → Q 
 on_two (Ok x) P Q R f p q = f p q
 on_two (Err fault) P Q R f p q = p
 
-pub assign_step : (names : Names) (scope : Scope) (t u w : FlatText) (s r : Span) (n i next : ℕ) (rest : Code) (target v : ExprTree) → names.scope ≡ scope
+pub assign_step : (names : Names) (scope : CScope) (t u w : FlatText) (s r : Span) (n i next : ℕ) (rest : Code) (target v : ExprTree) → names.scope ≡ scope
     → u ≡ with_exprs t (place_code scope target) → w ≡ with_exprs u (value_code scope v) → s ≡ span_of (length t.exprs) (place_code scope target) → r ≡ span_of (length u.exprs) (value_code scope v) → n ≡ go (i + 1) next rest
     → with_code names (with_statement w (Assign s r n)) (i + 1) next rest ≡ with_code names t i next (assign target v rest)
 assign_step names scope t u w s r n i next rest target v sc eu ew es er en = rw (ew, er, eu, es, en, sym sc) (sym (assign_laid names t i next rest target v))
@@ -50,7 +50,7 @@ pub empty_step : (names : Names) (t : FlatText) (n i next : ℕ) (rest : Code) �
     → with_code names (with_statement t (Goto n)) (i + 1) next rest ≡ with_code names t i next (empty rest)
 empty_step names t n i next rest en = rw en (sym (empty_laid names t i next rest))
 
-pub branch_step : (nodes : Nodes) (names : Names) (old new : List Task) (t w u : FlatText) (scope : Scope) (i next : ℕ) (test : ExprTree) (kind : Otherwise) (body other rest : CStmtId) (s : Span) (inside behind after sec met unmet : ℕ) → names.scope ≡ scope
+pub branch_step : (nodes : Nodes) (names : Names) (old new : List Task) (t w u : FlatText) (scope : CScope) (i next : ℕ) (test : ExprTree) (kind : Otherwise) (body other rest : CStmtId) (s : Span) (inside behind after sec met unmet : ℕ) → names.scope ≡ scope
     → inside ≡ i + 1 → behind ≡ past_both i (code_of nodes body.0) (code_of nodes other.0) → after ≡ go (past_both i (code_of nodes body.0) (code_of nodes other.0)) next (code_of nodes rest.0) → sec ≡ second i (code_of nodes body.0)
     → met ≡ go inside after (code_of nodes body.0) → unmet ≡ go sec after (code_of nodes other.0) → w ≡ with_exprs t (value_code scope test) → s ≡ span_of (length t.exprs) (value_code scope test)
     → u ≡ with_statement w (Test s met unmet) → new ≡ old ++ task.Code rest behind next ∷ task.Instr Stuck ∷ task.Code other sec after ∷ task.Code body inside after ∷ []

@@ -2,7 +2,7 @@
 use Rattle.std.specs.Prelude.{◌≡◌, ℕ, if◌then◌else◌, nat_lt, List, [], ◌∷◌, ◌++◌, length, Option, Some, None, option_map}
 use Rattle.c_text.specs.CTree.{Code}
 use Rattle.c_text.specs.CNodes.{Nodes, type_in}
-use Rattle.c_meaning.specs.CTypes.{Scope}
+use Rattle.c_meaning.specs.CTypes.{CScope}
 use Rattle.c_meaning.specs.CStep.{by_name}
 use Rattle.c_form_exprs.specs.Tables.{named}
 use Rattle.c_step_exprs.specs.declared.instrs.Instr.{Instr}
@@ -22,7 +22,7 @@ use Rattle.c_step_load_stmts.specs.declared.bodies.Body.{Body}
 abbrev pub nodes_of : Body → Nodes
 nodes_of b = b.names.scope.now.front.nodes
 
-abbrev pub scope_of : Body → Scope
+abbrev pub scope_of : Body → CScope
 scope_of b = program_scope b.names.scope.now
 
 -- What a body is put down by is told of one unit.

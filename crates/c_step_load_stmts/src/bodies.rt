@@ -1,7 +1,7 @@
 // What the body of a function is put down by: the names of its expressions, the numbers of its labels and statements, and the
 // type of its result.
 
-ghost use Rattle.std.specs.Prelude.{◌≡◌, ◌<◌, ◌+◌, length, OnOk, IfOk};
+ghost use Rattle.std.specs.Prelude.{◌≡◌, ◌<◌, length, OnOk, IfOk};
 ghost use Rattle.c_text.specs.CNodes.{expr_of, code_of, args_in, made_code};
 ghost use Rattle.c_text.specs.CFits.{HasArgs, FitsStmt};
 ghost use Rattle.c_step_exprs.specs.Resolving.{value_code, place_code, args_code};

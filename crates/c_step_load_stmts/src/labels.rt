@@ -5,7 +5,7 @@ ghost use Rattle.c_text.specs.CNodes.{code_of};
 ghost use Rattle.c_meaning.specs.CStep.{by_name};
 ghost use Rattle.c_form_exprs.specs.Tables.{named};
 ghost use Rattle.c_step_text.specs.Layout.{seek};
-ghost use Rattle.c_step_places.specs.Places.{PlaceTree, place_in, HasPlace, HasPlaces};
+ghost use Rattle.c_step_places.specs.Places.{PlaceTree, place_in, HasPlace};
 ghost use Rattle.c_step_places.specs.Weights.{WeighsAll};
 ghost use Rattle.c_step_load_stmts.specs.Bodies.{HasLabels};
 

@@ -1,16 +1,16 @@
 // The statements of a function's body, one instruction each (ISO/IEC 9899:1999, 6.8). Blocks are left to be put down later,
 // so that nothing calls itself, whatever the text nests or repeats.
 
-ghost use Rattle.std.specs.Prelude.{◌≡◌, ◌<◌, ◌+◌, ◌*◌, ◌++◌, ◌∷◌, [], length, option_map, OnOk, IfOk, IfSome};
+ghost use Rattle.std.specs.Prelude.{◌≡◌, ◌<◌, ◌+◌, ◌*◌, ◌++◌, ◌∷◌, [], length, OnOk, IfOk, IfSome};
 ghost use Rattle.c_text.specs.declared.kinds.Otherwise.{Otherwise};
 ghost use Rattle.c_text.specs.CTree.{nested, empty, assign, call, jump, branch, repeat, select, leave as leave_tree};
 ghost use Rattle.c_text.specs.CNodes.{bytes_at, expr_of, code_of, value_in, args_in};
 ghost use Rattle.c_text.specs.CFits.{HasName, HasCall};
 ghost use Rattle.c_meaning.specs.CStep.{code_weight, by_default};
-ghost use Rattle.c_step_exprs.specs.Resolving.{value_code, place_code};
+ghost use Rattle.c_step_exprs.specs.Resolving.{value_code};
 ghost use Rattle.c_step_text.specs.declared.text.StmtInstr.TheVariants.{Switch, Stuck};
 ghost use Rattle.c_step_text.specs.Layout.{Names as NamesOf, go, past, past_both, second, seek, number_or};
-ghost use Rattle.c_step_text.specs.Emitted.{span_of, cases_of, jump_instr, return_exprs, return_instr};
+ghost use Rattle.c_step_text.specs.Emitted.{span_of, cases_of, return_exprs, return_instr};
 ghost use Rattle.c_step_load_stmts.specs.declared.tasks.Task.TheVariants as task;
 ghost use Rattle.c_step_load_stmts.specs.Bodies.{nodes_of, scope_of, Fits, Tells, with_exprs, with_arms, with_statement, with_code};
 ghost use Rattle.c_step_load_stmts.specs.Tasks.{finished, HasTask, HasTasks, size_of, task_size};

@@ -1,11 +1,9 @@
 -- Objects of structs, one after the other.
-use Rattle.std.proofs.Common.{◌≡◌, ℕ, ◌+◌, ◌≤◌, List, [], ◌∷◌, ◌++◌, length, map, Option, Some, None, sym, ap, ◌∙◌, subst, arith, append_assoc}
+use Rattle.std.proofs.Common.{◌≡◌, ℕ, ◌+◌, ◌≤◌, List, [], ◌∷◌, ◌++◌, length, sym, ap, ◌∙◌, subst, arith, append_assoc}
 use Rattle.std.specs.Prelude.{reverse}
-use Rattle.std.proofs.lemmas.List.{append-nil, length-append, reverse-append}
-use Rattle.c_meaning.specs.CMemory.{Object, Memory, zero_field, zeroed}
+use Rattle.std.proofs.lemmas.List.{length-append, reverse-append}
+use Rattle.c_meaning.specs.CMemory.{Object, Memory}
 use Rattle.c_meaning.specs.CTypes.{StructDecl}
-use Rattle.c_mem.specs.declared.decls.FieldDecl.{FieldDecl}
-use Rattle.c_mem.specs.Leaving.{Leaves}
 use Rattle.c_step_objects.specs.Shapes.{objects_of, objects_of_all, inside_of, ShapeView, fields_at, size_at, all_shapes, placed, zero_object}
 use Rattle.c_step_objects.proofs.ListLemmas.{none_left, all_there}
 use Rattle.c_step_objects.proofs.ShapeLemmas.{expands, size_is}
@@ -14,13 +12,6 @@ use Rattle.c_step_objects.proofs.ShapeLemmas.{expands, size_is}
 last_is : (m : Memory) (x y : Object) → x ∷ [] ≡ m ++ y ∷ [] → y ≡ x
 last_is [] x y e = cc (e)
 last_is (z ∷ m) x y e = absurd (let n : length (x ∷ []) ≡ length (z ∷ (m ++ y ∷ [])) = ap length e in omega (arith, n, length-append m (y ∷ [])))
-
-pub zero_alone : (declared : Object) (first second rest : Memory) (done : Option (Unit {0})) (object : Object) → first ≡ declared ∷ [] → Leaves (zeroed first 0) first done second → second ≡ rest ++ object ∷ [] → object ≡ map zero_field declared
-zero_alone declared first second rest None object is left out = absurd (let none : zeroed first 0 ≡ None = left.0 in let some : zeroed first 0 ≡ Some (map zero_field declared ∷ []) = ap (λ (m : Memory). zeroed m 0) is in cc (none, some))
-zero_alone declared first second rest (Some done) object is left out =
-    let some : zeroed first 0 ≡ Some (map zero_field declared ∷ []) = ap (λ (m : Memory). zeroed m 0) is in
-    let now : map zero_field declared ∷ [] ≡ second = cc (some, left) in
-    last_is rest (map zero_field declared) object (now ∙ out)
 
 -- What is left is put down object by object.
 all_append : (structs : List StructDecl) (ks ls : List ℕ) (at : ℕ) → objects_of_all structs (ks ++ ls) at ≡ objects_of_all structs ks at ++ objects_of_all structs ls (at + length (objects_of_all structs ks at))
@@ -38,9 +29,6 @@ next_is structs k ks n =
     ∙ (ap (λ (xs : List Object). xs ++ objects_of_all structs ks (n + 1 + length (objects_of_all structs (inside_of (fields_at (all_shapes structs) k)) (n + 1)))) (expands structs k n)
     ∙ ap (λ (xs : List Object). zero_object (placed (all_shapes structs) (fields_at (all_shapes structs) k) (n + 1)) ∷ xs) (sym (all_append structs (inside_of (fields_at (all_shapes structs) k)) ks (n + 1))))
 
-pub objects_begin : (structs : List StructDecl) (all : List Object) (k : ℕ) → all ++ objects_of_all structs (reverse (k ∷ [])) (length all) ≡ all ++ objects_of structs k (length all)
-objects_begin structs all k = ap (λ (xs : List Object). all ++ xs) (append-nil (objects_of structs k (length all)))
-
 pub objects_on : (structs : List StructDecl) (shapes : List ShapeView) (k : ℕ) (all new total : List Object) (old left now : List ℕ) → shapes ≡ all_shapes structs → old ≡ left ++ k ∷ []
     → reverse now ≡ inside_of (fields_at shapes k) ++ reverse left → new ≡ all ++ zero_object (placed shapes (fields_at shapes k) (length all + 1)) ∷ []
     → all ++ objects_of_all structs (reverse old) (length all) ≡ total → new ++ objects_of_all structs (reverse now) (length new) ≡ total
@@ -54,9 +42,6 @@ objects_on structs shapes k all new total old left now is popped put added so_fa
     ∙ (ap (λ (xs : List Object). all ++ xs) (sym (next_is structs k (reverse left) (length all))) ∙ (ap (λ (ks : List ℕ). all ++ objects_of_all structs ks (length all)) (sym top) ∙ so_far)) in
     rw (long, put_here, added_here) moved
 
-pub objects_none_left : (structs : List StructDecl) (all total : List Object) (left : List ℕ) → length left ≡ 0 → all ++ objects_of_all structs (reverse left) (length all) ≡ total → all ≡ total
-objects_none_left structs all total left none so_far = all_there all _ total so_far (ap (λ (ks : List ℕ). objects_of_all structs (reverse ks) (length all)) (none_left left none))
-
 pub objects_done : (structs : List StructDecl) (shapes : List ShapeView) (k : ℕ) (first all : List Object) (left : List ℕ) (count : ℕ) → shapes ≡ all_shapes structs → length all ≡ length first + count → size_at shapes k ≤ count
     → all ++ objects_of_all structs (reverse left) (length all) ≡ first ++ objects_of structs k (length first) → all ≡ first ++ objects_of structs k (length first)
 objects_done structs shapes k first all left count is grown enough so_far =
@@ -65,10 +50,6 @@ objects_done structs shapes k first all left count is grown enough so_far =
     let parts : length (all ++ objects_of_all structs (reverse left) (length all)) ≡ length all + length (objects_of_all structs (reverse left) (length all)) = length-append all (objects_of_all structs (reverse left) (length all)) in
     let none : length (objects_of_all structs (reverse left) (length all)) ≡ 0 = omega (arith, size, total, parts, grown, enough) in
     all_there all (objects_of_all structs (reverse left) (length all)) (first ++ objects_of structs k (length first)) so_far (none_left (objects_of_all structs (reverse left) (length all)) none)
-
--- The structs of the objects inside, from the last on.
-pub inside_on : (fields rest : List FieldDecl) (ks left : List ℕ) → left ≡ inside_of rest ++ ks → fields ≡ rest → left ≡ inside_of fields ++ ks
-inside_on fields rest ks left h e = h ∙ ap (λ (fs : List FieldDecl). inside_of fs ++ ks) (sym e)
 
 pub put_on_top : (left new : List ℕ) (k : ℕ) (ins ks : List ℕ) → new ≡ left ++ k ∷ [] → reverse left ≡ ins ++ ks → reverse new ≡ k ∷ (ins ++ ks)
 put_on_top left new k ins ks put so_far = ap reverse put ∙ (reverse-append left (k ∷ []) ∙ ap (λ (xs : List ℕ). k ∷ xs) so_far)

@@ -1,14 +1,12 @@
 -- The objects of receivers, one after the other.
-use Rattle.std.proofs.Common.{◌≡◌, ℕ, true, false, List, ◌∷◌, ◌++◌, length, Option, Some, None, refl, sym}
+use Rattle.std.proofs.Common.{◌≡◌, ℕ, false, Option, Some, None, sym}
 use Rattle.std.specs.Prelude.{unwrap_or, option_map}
 use Rattle.std.specs.Option.{option_map_or}
-use Rattle.std.proofs.lemmas.List.{append-nil}
 use Rattle.wf_text.specs.Surface.{Surface, PublicStruct}
 use Rattle.wf_text.specs.HostActions.{Receiver}
 use Rattle.wf_base.specs.LawfulActions.{struct_numbered}
-use Rattle.c_meaning.specs.CMemory.{Object, Memory}
 use Rattle.c_meaning.specs.CCall.{Program}
-use Rattle.c_meaning.specs.CRun.{no_fields, struct_objects, struct_name, receiver_objects, receiver_pointer, make_receivers}
+use Rattle.c_meaning.specs.CRun.{no_fields, struct_objects, struct_name, receiver_objects}
 use Rattle.c_step_objects.specs.Shapes.{struct_number, objects_of}
 use Rattle.c_step_objects.specs.Types.{type_name, numbered_type}
 use Rattle.c_step_objects.proofs.ShapeLemmas.{name_is, objects_none}
@@ -20,10 +18,3 @@ receiver_is p surface receiver from k some is = rw (some, is) (by (struct_number
     by : (o : Option PublicStruct) → option_map_or (λ it. struct_objects p.structs (struct_name surface it) from) o no_fields ≡ objects_of p.structs (unwrap_or (option_map (λ it. struct_number p.structs (type_name surface.package_name it.name)) o) 0) from
     by None = sym (objects_none p.structs from)
     by (Some it) = name_is p.structs (struct_name surface it) from
-
-pub no_receiver : (p : Program) (surface : Surface) (receiver : Receiver) (from : ℕ) (all : List Object) → receiver.null ≡ true → all ≡ all ++ receiver_objects p surface receiver from
-no_receiver p surface receiver from all null = rw null (sym (append-nil all))
-
-pub receivers_on : (p : Program) (surface : Surface) (receiver : Receiver) (others left : List Receiver) (all new : Memory) → left ≡ receiver ∷ others → new ≡ all ++ receiver_objects p surface receiver (length all)
-    → make_receivers p surface left all ≡ record { pointers = receiver_pointer receiver (length all) ∷ (make_receivers p surface others new).pointers; memory = (make_receivers p surface others new).memory }
-receivers_on p surface receiver others left all new is added = rw (is, added) refl

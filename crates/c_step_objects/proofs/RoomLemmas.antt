@@ -1,5 +1,5 @@
 -- What is kept for calls.
-use Rattle.std.proofs.Common.{◌≡◌, ℕ, ◌≤◌, true, List, [], ◌∷◌, ◌++◌, refl, sym, ap, subst, arith}
+use Rattle.std.proofs.Common.{◌≡◌, ℕ, true, List, [], ◌∷◌, ◌++◌, refl, sym, ap, subst}
 use Rattle.c_meaning.specs.CMemory.{Object}
 use Rattle.c_meaning.specs.CRun.{no_buffer, bytes_object}
 use Rattle.c_mem.specs.FieldParts.{has_bytes}
@@ -23,6 +23,3 @@ bytes_more all new x put is h = subst HaveBytes (sym put) (bytes_end all x h (ap
 
 pub room_as : (m : Mem) (a b : ℕ) → a ≡ b → HasRoom m a → HasRoom m b
 room_as m a b e h = subst (HasRoom m) e h
-
-pub room_less : (m : Mem) (a b : ℕ) → b ≤ a → HasRoom m a → HasRoom m b
-room_less m a b le h = (omega (arith, h.0, le), omega (arith, h.1, le))

@@ -11,7 +11,7 @@ ghost use Rattle.c_step_objects.specs.Types.{IsTypes};
 use crate::objects::add_objects;
 use crate::texts::text_objects;
 use crate::types::{Types, types_of};
-use c_meaning::values::{Pointer, Value};
+use c_meaning::values::{CValue, Pointer};
 use c_mem::Object;
 use c_text::Unit;
 use std::alloc::Global;
@@ -24,7 +24,7 @@ pub(crate) struct Objects {
     /// The objects.
     pub(crate) all: Vec<Object>,
     /// The pointers.
-    pub(crate) pointers: Vec<Value>,
+    pub(crate) pointers: Vec<CValue>,
 }
 
 /// Adds the objects of a receiver; the pointer to it.
@@ -33,17 +33,17 @@ fn add_receiver(
     types: &Types,
     receiver: ReceiverDecl,
     all: &mut Vec<Object>,
-) -> Result<Value, NoMemory>
+) -> Result<CValue, NoMemory>
     ensures pointer { IfOk result (λ v. v ≡ receiver_pointer (receiver_of receiver) (length all.old.items)) }
     ensures objects { (p : Program) (surface : Surface) → IsTypes types.now p surface → OnOk result (all.new.items ≡ all.old.items ++ receiver_objects p surface (receiver_of receiver) (length all.old.items)) }
 {
     if receiver.null {
-        return Ok(Value::NullPointer);
+        return Ok(CValue::NullPointer);
     }
     let object = all.len();
     let k = types.numbers.get(&receiver.of.0).copied().unwrap_or(0);
     add_objects(alloc, types.shapes.as_slice(), k, all)?;
-    Ok(Value::Address(Pointer {
+    Ok(CValue::Address(Pointer {
         object,
         field: 0,
         index: 0,
@@ -56,7 +56,7 @@ fn add_receivers(
     types: &Types,
     receivers: &[ReceiverDecl],
     all: &mut Vec<Object>,
-) -> Result<Vec<Value>, NoMemory>
+) -> Result<Vec<CValue>, NoMemory>
     ensures pointers { (p : Program) (surface : Surface) → IsTypes types.now p surface → IfOk result (λ them. them.items ≡ (make_receivers p surface (map receiver_of receivers.now) all.old.items).pointers) }
     ensures objects { (p : Program) (surface : Surface) → IsTypes types.now p surface → OnOk result (all.new.items ≡ (make_receivers p surface (map receiver_of receivers.now) all.old.items).memory) }
 {

@@ -1,7 +1,7 @@
 // The structs of a text, by number (ISO/IEC 9899:1999, 6.7.2.1).
 
 ghost use Rattle.std.specs.Prelude.{◌≡◌, ◌<◌, ◌+◌, ◌∷◌, [], List, suc, length, map, IfOk, OnOk};
-ghost use Rattle.c_text.specs.CNodes.{field_tree, bytes_at, unit_tree};
+ghost use Rattle.c_text.specs.CNodes.{field_tree, unit_tree};
 ghost use Rattle.c_text.specs.CFits.{HasField, HasFields};
 ghost use Rattle.c_meaning.specs.CTypes.{StructDecl};
 ghost use Rattle.c_meaning.specs.CCall.{program_of};

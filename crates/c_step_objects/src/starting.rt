@@ -13,7 +13,7 @@ ghost use Rattle.c_step_calls.specs.Resting.{IsResting, AreSpare};
 
 use crate::receivers::{Objects, objects_of};
 use crate::rooms::{most_args, room, stack, stand};
-use c_meaning::values::Value;
+use c_meaning::values::CValue;
 use c_step_calls::Room;
 use c_step_load::{Numbered, Program, load};
 use c_step_run::{Code, Store};
@@ -27,7 +27,7 @@ pub struct Started {
     /// The functions.
     pub code: Code,
     /// The pointers to the receivers.
-    pub pointers: Vec<Value>,
+    pub pointers: Vec<CValue>,
     /// What is kept for calls.
     pub room: Room,
     /// Memory, the stack, and what calls are made of.

@@ -4,7 +4,7 @@ use Rattle.std.specs.Prelude.{if◌then◌else◌, slice_get, slice_range, bytes
 use Rattle.std.proofs.lemmas.List.{append_assoc, append-nil, length-append, take_at, drop_at}
 use Rattle.std.proofs.lemmas.Option.{slice_get_within}
 use Rattle.c_text.specs.CTree.{TypeTree, ExprTree, Code, finish, nested, empty, assign, call, jump, branch, repeat, select, leave, case_label, default_label, name_label, LocalTree}
-use Rattle.c_meaning.specs.CTypes.{Function, Scope, returned}
+use Rattle.c_meaning.specs.CTypes.{Function, CScope, returned}
 use Rattle.c_meaning.specs.CCall.{Program, scope_in}
 use Rattle.c_step_exprs.specs.declared.instrs.Instr.{Instr}
 use Rattle.c_step_exprs.specs.Resolving.{function_number, value_code}
@@ -100,16 +100,16 @@ as_many_args (f ∷ fs) = length-append (all_args fs) (args_of f ∷ []) ∙ one
     one_on : (n k : ℕ) → n ≡ k → n + length (args_of f ∷ []) ≡ suc k
     one_on n k e = omega (arith, e)
 
-pub as_many_initials : (scope : Scope) (field place : ℕ) (ls : List LocalTree) → length (initials_of scope field place ls) ≡ length ls
+pub as_many_initials : (scope : CScope) (field place : ℕ) (ls : List LocalTree) → length (initials_of scope field place ls) ≡ length ls
 as_many_initials scope field place [] = refl
 as_many_initials scope field place (l ∷ ls) = ap suc (as_many_initials scope (field + 1) (place + length (initial_exprs_of scope l.initial)) ls)
 
 -- The initial values of locals.
-one_initial : (t : FlatText) (scope : Scope) (place : ℕ) (o : Option ExprTree) → StandAt t.exprs place (initial_exprs_of scope o) → InitialOf t scope o (initial_span scope place o)
+one_initial : (t : FlatText) (scope : CScope) (place : ℕ) (o : Option ExprTree) → StandAt t.exprs place (initial_exprs_of scope o) → InitialOf t scope o (initial_span scope place o)
 one_initial t scope place None h = tt
 one_initial t scope place (Some x) h = at_range t.exprs place (value_code scope x) h
 
-all_initials : (t : FlatText) (scope : Scope) (field place : ℕ) (ls : List LocalTree) → StandAt t.exprs place (initial_exprs scope ls) → InitialsOf t scope field ls (initials_of scope field place ls)
+all_initials : (t : FlatText) (scope : CScope) (field place : ℕ) (ls : List LocalTree) → StandAt t.exprs place (initial_exprs scope ls) → InitialsOf t scope field ls (initials_of scope field place ls)
 all_initials t scope field place [] h = tt
 all_initials t scope field place (l ∷ ls) h = (
   refl,
@@ -118,7 +118,7 @@ all_initials t scope field place (l ∷ ls) h = (
 )
 
 -- The value in an expression.
-a_value : (t : FlatText) (scope : Scope) (place : ℕ) (v : Option ExprTree) (type : Option TypeTree) → ((x : ExprTree) (ty : TypeTree) → v ≡ Some x → type ≡ Some ty → StandAt t.exprs place (value_code scope x)) → InlineOf t scope v type (inline_of scope place v type)
+a_value : (t : FlatText) (scope : CScope) (place : ℕ) (v : Option ExprTree) (type : Option TypeTree) → ((x : ExprTree) (ty : TypeTree) → v ≡ Some x → type ≡ Some ty → StandAt t.exprs place (value_code scope x)) → InlineOf t scope v type (inline_of scope place v type)
 a_value t scope place None type h = refl
 a_value t scope place (Some v) None h = refl
 a_value t scope place (Some v) (Some ty) h = (at_range t.exprs place (value_code scope v) (h v ty refl refl), refl)

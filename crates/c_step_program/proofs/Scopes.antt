@@ -5,7 +5,7 @@ use Rattle.std.proofs.lemmas.List.{append_assoc, append-nil, reverse-append}
 use Rattle.wf_text.specs.Surface.{Surface}
 use Rattle.c_text.specs.CTree.{TypeTree, uint, size, boolean, uint_pointer, struct_pointer, text, ExprTree, number, variable, member, element, pointed, operation, unary, cast, choice, called, Operands, no_operand, operand, Args, no_arg, expr_arg, sizeof_arg, ItemTree, struct_item, text_item, function_item}
 use Rattle.c_text.proofs.Names.{bytes_eq-true}
-use Rattle.c_meaning.specs.CTypes.{StructDecl, Function, Scope, scope_of, structs_of, functions_of, names_of, struct_named, function_named, field_named, ExprType, points_to, numbers, zero_literal, object, cell, byte, Held, held_type, value_type, operations_type, unary_type, is_known, cast_from, choice_type, called_type, variable_held, field_held, field_of, member_held, pointed_held, element_held, type_of, held_of, operand_types, arg_types}
+use Rattle.c_meaning.specs.CTypes.{StructDecl, Function, CScope, scope_of, structs_of, functions_of, names_of, struct_named, function_named, field_named, ExprType, points_to, numbers, zero_literal, object, cell, byte, Held, held_type, value_type, operations_type, unary_type, is_known, cast_from, choice_type, called_type, variable_held, field_held, field_of, member_held, pointed_held, element_held, type_of, held_of, operand_types, arg_types}
 use Rattle.c_meaning.specs.CCall.{program_of, scope_in}
 use Rattle.c_meaning.specs.UnitForm.{is_among, item_name, formed_item, break_from, HasUnitForm}
 use Rattle.c_step_program.proofs.Apart.{other_way, neither, functions_append, free, formed_here}
@@ -108,13 +108,13 @@ alike_from p before all (item ∷ items) e h =
     subst Alike (append_assoc before (item ∷ []) items) (alike_from p (before ++ item ∷ []) all items k.1 (alike_more before h item (free p before (map item_name all) item k.0)))
 
 -- Two scopes in which each name is the same.
-pub record Agree (s t : Scope) : Type 0 where
+pub record Agree (s t : CScope) : Type 0 where
   pub structs : (name : List ℕ) → struct_named s.structs name ≡ struct_named t.structs name
   pub functions : (name : List ℕ) → function_named s.functions name ≡ function_named t.functions name
   pub names : s.names ≡ t.names
   pub texts : s.texts ≡ t.texts
 
-module _ (s t : Scope) (agree : Agree s t) where
+module _ (s t : CScope) (agree : Agree s t) where
   variables : (name : List ℕ) → variable_held s name ≡ variable_held t name
   variables name =
       ap (λ names. variable_held (record s { names = names }) name) agree.names ∙ ap (λ texts. variable_held (record t { texts = texts }) name) agree.texts

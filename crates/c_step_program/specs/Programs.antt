@@ -2,7 +2,7 @@
 -- functions of a program are in the reverse order of the text.
 use Rattle.std.specs.Prelude.{◌≡◌, ℕ, ◌+◌, List, [], ◌∷◌, ◌++◌, length, Option, Some, None}
 use Rattle.c_text.specs.CTree.{TypeTree, ExprTree, LocalTree}
-use Rattle.c_meaning.specs.CTypes.{Function, Scope, returned}
+use Rattle.c_meaning.specs.CTypes.{Function, CScope, returned}
 use Rattle.c_meaning.specs.CExprs.{cell_type}
 use Rattle.c_meaning.specs.CStep.{code_weight}
 use Rattle.c_meaning.specs.CCall.{Program, scope_in}
@@ -26,24 +26,24 @@ AreApart [] = Unit {0}
 AreApart (f ∷ fs) = (function_number fs f.name ≡ None) × AreApart fs
 
 -- The initial values of locals: their expressions, and the locals with the parts of a list from a place on that these take.
-abbrev pub initial_exprs_of : Scope → Option ExprTree → List Instr
+abbrev pub initial_exprs_of : CScope → Option ExprTree → List Instr
 initial_exprs_of scope None = []
 initial_exprs_of scope (Some x) = value_code scope x
 
-abbrev pub initial_exprs : Scope → List LocalTree → List Instr
+abbrev pub initial_exprs : CScope → List LocalTree → List Instr
 initial_exprs scope [] = []
 initial_exprs scope (l ∷ ls) = initial_exprs_of scope l.initial ++ initial_exprs scope ls
 
-abbrev pub initial_span : Scope → (place : ℕ) → Option ExprTree → Option Span
+abbrev pub initial_span : CScope → (place : ℕ) → Option ExprTree → Option Span
 initial_span scope place None = None
 initial_span scope place (Some x) = Some (span_of place (value_code scope x))
 
-abbrev pub initials_of : Scope → (field place : ℕ) → List LocalTree → List Initial
+abbrev pub initials_of : CScope → (field place : ℕ) → List LocalTree → List Initial
 initials_of scope field place [] = []
 initials_of scope field place (l ∷ ls) = record { field = field; value = initial_span scope place l.initial } ∷ initials_of scope (field + 1) (place + length (initial_exprs_of scope l.initial)) ls
 
 -- What a function in an expression returns, whose body's expressions stand from a place on.
-abbrev pub inline_of : Scope → (place : ℕ) → Option ExprTree → Option TypeTree → Option Inline
+abbrev pub inline_of : CScope → (place : ℕ) → Option ExprTree → Option TypeTree → Option Inline
 inline_of scope place (Some v) (Some type) = Some (record { value = span_of place (value_code scope v); ty = cell_type type })
 inline_of scope place (Some v) None = None
 inline_of scope place None type = None

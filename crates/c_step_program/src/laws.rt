@@ -6,7 +6,7 @@ ghost use Rattle.c_text.specs.CTree.{ItemTree, ExprTree};
 ghost use Rattle.c_meaning.specs.CTypes.{Function, scope_of, names_of, type_of, held_of};
 ghost use Rattle.c_meaning.specs.CCall.{Program, program_of, scope_in};
 ghost use Rattle.c_meaning.specs.UnitForm.{HasUnitForm};
-ghost use Rattle.c_step_run.specs.Coding.{AreCoded, IsRanked, CodeView};
+ghost use Rattle.c_step_run.specs.Coding.{AreCoded, IsRanked};
 ghost use Rattle.c_step_program.specs.Programs.{AreApart, inline_lengths, code_of, frames_of, all_args};
 
 /// Where no function has another one's name, the code of a program has each function under its number, with its text, its

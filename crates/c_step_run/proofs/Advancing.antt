@@ -6,8 +6,8 @@ use Rattle.std.proofs.Math.Nat.{mul-le-mul_right}
 use Rattle.turns.specs.Run.{Outcome, More}
 use Rattle.c_text.specs.declared.kinds.Linkage.{Linkage}
 use Rattle.c_text.specs.declared.kinds.Linkage.TheVariants.{External, Static, StaticInline}
-use Rattle.c_meaning.specs.declared.values.Value.{Value}
-use Rattle.c_meaning.specs.declared.values.Value.TheVariants.{Numeric as numeric, Address as address, NullPointer as null_pointer}
+use Rattle.c_meaning.specs.declared.values.CValue.{CValue}
+use Rattle.c_meaning.specs.declared.values.CValue.TheVariants.{Numeric as numeric, Address as address, NullPointer as null_pointer}
 use Rattle.c_meaning.specs.CValues.{holds}
 use Rattle.c_meaning.specs.CStep.{Returned}
 use Rattle.c_meaning.specs.CCall.{entered}
@@ -45,11 +45,11 @@ test_if : (size pc met unmet left : ℕ) (b : Bool) → pc < size → Advances s
 test_if size pc met unmet left true w = leap_falls size pc met left left w (omega arith)
 test_if size pc met unmet left false w = leap_falls size pc unmet left left w (omega arith)
 
-pub test_falls : (size pc met unmet left : ℕ) (v : Option Value) → pc < size → Advances size pc left (testing v pc met unmet left)
+pub test_falls : (size pc met unmet left : ℕ) (v : Option CValue) → pc < size → Advances size pc left (testing v pc met unmet left)
 test_falls size pc met unmet left None w = tt
 test_falls size pc met unmet left (Some v) w = test_if size pc met unmet left (holds v) w
 
-pub switch_falls : (size pc other left : ℕ) (v : Option Value) (arms : List Arm) → pc < size → Advances size pc left (switching v arms pc other left)
+pub switch_falls : (size pc other left : ℕ) (v : Option CValue) (arms : List Arm) → pc < size → Advances size pc left (switching v arms pc other left)
 switch_falls size pc other left None arms w = tt
 switch_falls size pc other left (Some (numeric n)) arms w = leap_falls size pc (number_or (arm_of n arms) other) left left w (omega arith)
 switch_falls size pc other left (Some (address p)) arms w = tt

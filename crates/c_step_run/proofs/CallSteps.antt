@@ -1,7 +1,7 @@
 -- What a call in an expression needs, and what it leaves.
 use Rattle.std.proofs.Common.{◌≡◌, ℕ, zero, suc, ◌+◌, ◌≤◌, Bool, true, false, List, [], ◌∷◌, length, Some, sym, ap, ◌∙◌, subst, arith, length-append, length-drop}
 use Rattle.std.specs.Prelude.{slice_get, slice_set}
-use Rattle.c_meaning.specs.declared.values.Value.{Value}
+use Rattle.c_meaning.specs.declared.values.CValue.{CValue}
 use Rattle.c_meaning.specs.CMemory.{Memory}
 use Rattle.c_mem.proofs.Stored.{put_back}
 use Rattle.c_mem.specs.MemoryViews.{HasRoom}
@@ -10,7 +10,7 @@ use Rattle.c_step_frames.specs.Frames.{FrameView, Enters}
 use Rattle.c_step_run.specs.Meaning.{OnTrue}
 use Rattle.c_step_run.specs.Resting.{EndsInCall}
 use Rattle.c_step_run.proofs.Objects.{object_shape_is}
-use Rattle.c_step_run.proofs.Rooms.{inner_need, rest_below, others_stay, fewer_objects}
+use Rattle.c_step_run.proofs.Rooms.{fewer_objects}
 use Rattle.c_step_run.proofs.Rooms as rooms
 use Rattle.c_meaning.proofs.Stores.{get_set_same}
 use Rattle.std.proofs.lemmas.Option.{slice_get_within}
@@ -32,13 +32,13 @@ pub taken_is : (frames now : List FrameView) (k : ℕ) (f : FrameView) → slice
 taken_is frames now k f e n = ap (λ (fs : List FrameView). slice_get fs k) n ∙ get_set_same frames k (record f { rests = false }) (slice_get_within frames k f e)
 
 -- The memory and the stack after the entry of a call.
-pub stack_below : (f : FrameView) (m now : Memory) (stack left : List Value) → Enters f m stack true now left → length left ≤ length stack
+pub stack_below : (f : FrameView) (m now : Memory) (stack left : List CValue) → Enters f m stack true now left → length left ≤ length stack
 stack_below f m now stack left h = omega (arith, ap length h.3, length-drop (length f.params) stack)
 
-pub one_more : (f : FrameView) (m now : Memory) (stack left : List Value) (n : ℕ) → Enters f m stack true now left → n ≡ length m → n + 1 ≡ length now
+pub one_more : (f : FrameView) (m now : Memory) (stack left : List CValue) (n : ℕ) → Enters f m stack true now left → n ≡ length m → n + 1 ≡ length now
 one_more f m now stack left n h e = omega (arith, e, ap length h.2, length-append m (h.0 ∷ []))
 
-pub ends_in_call : (f : FrameView) (m now after : Memory) (stack left : List Value) (frames : List FrameView) (k : ℕ) → Enters f m stack true now left → after ≡ now → slice_get frames k ≡ Some (record f { rests = false }) → EndsInCall frames k after
+pub ends_in_call : (f : FrameView) (m now after : Memory) (stack left : List CValue) (frames : List FrameView) (k : ℕ) → Enters f m stack true now left → after ≡ now → slice_get frames k ≡ Some (record f { rests = false }) → EndsInCall frames k after
 ends_in_call f m now after stack left frames k h same e =
     (record f { rests = false }, e, record { front = m; last = h.0; is = same ∙ h.2; shape = object_shape_is f.params f.locals _ h.0 h.1 })
 

@@ -2,7 +2,7 @@
 use Rattle.std.proofs.Common.{◌≡◌, ℕ, zero, suc, ◌+◌, ◌<◌, ◌≤◌, true, List, [], ◌∷◌, length, Option, Some, None, refl, sym, ap, ◌∙◌, subst, arith, drop}
 use Rattle.std.specs.Prelude.{slice_get, option_map, option_and_then}
 use Rattle.std.proofs.lemmas.Option.{slice_get_within}
-use Rattle.c_meaning.specs.declared.values.Value.{Value}
+use Rattle.c_meaning.specs.declared.values.CValue.{CValue}
 use Rattle.c_meaning.specs.CMemory.{Memory}
 use Rattle.c_step_exprs.specs.declared.instrs.Instr.{Instr}
 use Rattle.c_step_exprs.specs.declared.instrs.Instr.TheVariants as does
@@ -36,12 +36,12 @@ drop_at [] at i e = absurd (cc (e))
 drop_at (d ∷ ds) zero i e = let s : d ≡ i = cc (e) in ap (λ x. x ∷ ds) s
 drop_at (d ∷ ds) (suc at) i e = let n : suc at + 1 ≡ suc (at + 1) = omega arith in rw n (drop_at ds at i e)
 
-one_step : (a : Around) (code : List Instr) (at : ℕ) (i : Instr) (stack : List Value) → slice_get code at ≡ Some i
-    → run_from a code at stack ≡ option_and_then (λ (next : ℕ × List Value). exec a next.0 (drop (at + 1) code) next.1) (step a i stack)
+one_step : (a : Around) (code : List Instr) (at : ℕ) (i : Instr) (stack : List CValue) → slice_get code at ≡ Some i
+    → run_from a code at stack ≡ option_and_then (λ (next : ℕ × List CValue). exec a next.0 (drop (at + 1) code) next.1) (step a i stack)
 one_step a code at i stack h = ap (λ (is : List Instr). exec a 0 is stack) (drop_at code at i h)
 
 -- The step of a call.
-called_step : (a : Around) (i : Instr) (stack : List Value) → is_call i ≡ true → step a i stack ≡ goes_on (called_by_instr a i stack)
+called_step : (a : Around) (i : Instr) (stack : List CValue) → is_call i ≡ true → step a i stack ≡ goes_on (called_by_instr a i stack)
 called_step a (does.Call function count) stack e = refl
 called_step a (does.Put it) stack e = absurd (cc (e))
 called_step a (does.Turn it) stack e = absurd (cc (e))
@@ -50,17 +50,17 @@ called_step a (does.Test it count) stack e = absurd (cc (e))
 called_step a (does.Skip count) stack e = absurd (cc (e))
 called_step a does.Stuck stack e = absurd (cc (e))
 
-call_step : (a : Around) (code : List Instr) (at : ℕ) (i : Instr) (stack : List Value) → slice_get code at ≡ Some i → IsCallAt code at
-    → run_from a code at stack ≡ option_and_then (λ (next : ℕ × List Value). exec a next.0 (drop (at + 1) code) next.1) (goes_on (called_by_instr a i stack))
+call_step : (a : Around) (code : List Instr) (at : ℕ) (i : Instr) (stack : List CValue) → slice_get code at ≡ Some i → IsCallAt code at
+    → run_from a code at stack ≡ option_and_then (λ (next : ℕ × List CValue). exec a next.0 (drop (at + 1) code) next.1) (goes_on (called_by_instr a i stack))
 call_step a code at i stack e h =
     one_step a code at i stack e
-    ∙ ap (option_and_then (λ (next : ℕ × List Value). exec a next.0 (drop (at + 1) code) next.1)) (called_step a i stack (found_call code at i e h))
+    ∙ ap (option_and_then (λ (next : ℕ × List CValue). exec a next.0 (drop (at + 1) code) next.1)) (called_step a i stack (found_call code at i e h))
 
 -- What is told of the run up to a call.
-abbrev pub Told : (frame : ℕ) → Memory → List Instr → (from call : ℕ) → (before after : List Value) → Type 0
-Told frame m code from call before after = (called : ℕ → List Value → Option Value) → (run_from (placed frame m called) code from before ≡ run_from (placed frame m called) code call after) × IsCallAt code call
+abbrev pub Told : (frame : ℕ) → Memory → List Instr → (from call : ℕ) → (before after : List CValue) → Type 0
+Told frame m code from call before after = (called : ℕ → List CValue → Option CValue) → (run_from (placed frame m called) code from before ≡ run_from (placed frame m called) code call after) × IsCallAt code call
 
-module _ (p : Program) (callable : List Function) (frame : ℕ) (m0 m : Memory) (same : m ≡ m0) (code : List Instr) (from call : ℕ) (i : Instr) (stack0 before after : List Value)
+module _ (p : Program) (callable : List Function) (frame : ℕ) (m0 m : Memory) (same : m ≡ m0) (code : List Instr) (from call : ℕ) (i : Instr) (stack0 before after : List CValue)
     (here : exec (seen_in p callable frame m0) 0 code stack0 ≡ run_from (seen_in p callable frame m0) code from before)
     (told : Told frame m code from call before after)
     (is : slice_get code call ≡ Some i)
@@ -71,16 +71,16 @@ module _ (p : Program) (callable : List Function) (frame : ℕ) (m0 m : Memory) 
     a_call : IsCallAt code call
     a_call = (told (λ k given. expression_at p callable k m given)).1
 
-    pub eval_goes : (now : List Value) → called_by_instr (seen_in p callable frame m) i after ≡ Some now → exec (seen_in p callable frame m0) 0 code stack0 ≡ run_from (seen_in p callable frame m0) code (call + 1) now
+    pub eval_goes : (now : List CValue) → called_by_instr (seen_in p callable frame m) i after ≡ Some now → exec (seen_in p callable frame m0) 0 code stack0 ≡ run_from (seen_in p callable frame m0) code (call + 1) now
     eval_goes now e =
         up_to ∙ (call_step (seen_in p callable frame m0) code call i after is a_call
-        ∙ ap (λ (o : Option (List Value)). option_and_then (λ (next : ℕ × List Value). exec (seen_in p callable frame m0) next.0 (drop (call + 1) code) next.1) (goes_on o))
+        ∙ ap (λ (o : Option (List CValue)). option_and_then (λ (next : ℕ × List CValue). exec (seen_in p callable frame m0) next.0 (drop (call + 1) code) next.1) (goes_on o))
         (subst (λ (x : Memory). called_by_instr (seen_in p callable frame x) i after ≡ Some now) same e))
 
     pub eval_stops : called_by_instr (seen_in p callable frame m) i after ≡ None → exec (seen_in p callable frame m0) 0 code stack0 ≡ None
     eval_stops e =
         up_to ∙ (call_step (seen_in p callable frame m0) code call i after is a_call
-        ∙ ap (λ (o : Option (List Value)). option_and_then (λ (next : ℕ × List Value). exec (seen_in p callable frame m0) next.0 (drop (call + 1) code) next.1) (goes_on o))
+        ∙ ap (λ (o : Option (List CValue)). option_and_then (λ (next : ℕ × List CValue). exec (seen_in p callable frame m0) next.0 (drop (call + 1) code) next.1) (goes_on o))
         (subst (λ (x : Memory). called_by_instr (seen_in p callable frame x) i after ≡ None) same e))
 
 pub kept_room : (a b c : Store) → KeepsRoom a b → KeepsRoom b c → KeepsRoom a c

@@ -3,8 +3,8 @@ use Rattle.std.proofs.Common.{◌≡◌, ℕ, zero, suc, ◌<◌, Bool, true, fa
 use Rattle.std.specs.Prelude.{if◌then◌else◌, nat_lt, slice_get, option_and_then}
 use Rattle.std.proofs.lemmas.Bool.Decides.{nat_tests}
 use Rattle.turns.specs.Run.{Outcome, Got, More, Lost}
-use Rattle.c_meaning.specs.declared.values.Value.{Value}
-use Rattle.c_meaning.specs.declared.values.Value.TheVariants.{Numeric as numeric, Address as address, NullPointer as null_pointer}
+use Rattle.c_meaning.specs.declared.values.CValue.{CValue}
+use Rattle.c_meaning.specs.declared.values.CValue.TheVariants.{Numeric as numeric, Address as address, NullPointer as null_pointer}
 use Rattle.c_meaning.specs.declared.cells.CellType.{CellType}
 use Rattle.c_meaning.specs.CValues.{holds}
 use Rattle.c_meaning.specs.CMemory.{Memory}
@@ -59,12 +59,12 @@ module _ (t : FlatText) (a : Activation) (total : Outcome Returned) where
   tests_by true pc met unmet left memory to_met to_unmet h k e = leaps_later pc met left memory to_met h e
   tests_by false pc met unmet left memory to_met to_unmet h k e = leaps_later pc unmet left memory to_unmet k e
 
-  pub tests_on : (pc met unmet left : ℕ) (test : Span) (h : ℕ → Memory → Outcome Returned) (memory : Memory) (v : Option Value) → Tests t a pc test met unmet h
+  pub tests_on : (pc met unmet left : ℕ) (test : Span) (h : ℕ → Memory → Outcome Returned) (memory : Memory) (v : Option CValue) → Tests t a pc test met unmet h
       → v ≡ evaluated (seen a memory) (code_in t test) → total ≡ h left memory → LeadsOn t a (testing v pc met unmet left) memory total
   tests_on pc met unmet left test h memory v q k e =
-      by_value v (e ∙ (q.comes left memory ∙ ap (λ (o : Option Value). tested o (runs_on q.to_met left memory) (runs_on q.to_unmet left memory)) (sym k)))
+      by_value v (e ∙ (q.comes left memory ∙ ap (λ (o : Option CValue). tested o (runs_on q.to_met left memory) (runs_on q.to_unmet left memory)) (sym k)))
     where
-      by_value : (o : Option Value) → total ≡ tested o (runs_on q.to_met left memory) (runs_on q.to_unmet left memory) → LeadsOn t a (testing o pc met unmet left) memory total
+      by_value : (o : Option CValue) → total ≡ tested o (runs_on q.to_met left memory) (runs_on q.to_unmet left memory) → LeadsOn t a (testing o pc met unmet left) memory total
       by_value None g = g
       by_value (Some w) g = tests_by (holds w) pc met unmet left memory q.to_met q.to_unmet q.later_met q.later_unmet g
 
@@ -77,23 +77,23 @@ module _ (t : FlatText) (a : Activation) (total : Outcome Returned) where
   pub no_turn : (met unmet left : ℕ) (test : Span) (h : ℕ → Memory → Outcome Returned) (memory : Memory) → Backs t a test met unmet h → left ≡ 0 → total ≡ h left memory → total ≡ More
   no_turn met unmet left test h memory q z e = e ∙ (q.comes left memory ∙ ap (λ (n : ℕ). with_turn n (λ now. tested (evaluated (seen a memory) (code_in t test)) (runs_on q.to_met now memory) (runs_on q.to_unmet now memory))) z)
 
-  pub backs_on : (met unmet left now : ℕ) (test : Span) (h : ℕ → Memory → Outcome Returned) (memory : Memory) (v : Option Value) → Backs t a test met unmet h
+  pub backs_on : (met unmet left now : ℕ) (test : Span) (h : ℕ → Memory → Outcome Returned) (memory : Memory) (v : Option CValue) → Backs t a test met unmet h
       → left ≡ suc now → v ≡ evaluated (seen a memory) (code_in t test) → total ≡ h left memory → LeadsOn t a (coming_back v met unmet now) memory total
   backs_on met unmet left now test h memory v q s k e =
       by_value v (e ∙ (q.comes left memory
       ∙ (ap (λ (n : ℕ). with_turn n (λ m. tested (evaluated (seen a memory) (code_in t test)) (runs_on q.to_met m memory) (runs_on q.to_unmet m memory))) s
-      ∙ ap (λ (o : Option Value). tested o (runs_on q.to_met now memory) (runs_on q.to_unmet now memory)) (sym k))))
+      ∙ ap (λ (o : Option CValue). tested o (runs_on q.to_met now memory) (runs_on q.to_unmet now memory)) (sym k))))
     where
-      by_value : (o : Option Value) → total ≡ tested o (runs_on q.to_met now memory) (runs_on q.to_unmet now memory) → LeadsOn t a (coming_back o met unmet now) memory total
+      by_value : (o : Option CValue) → total ≡ tested o (runs_on q.to_met now memory) (runs_on q.to_unmet now memory) → LeadsOn t a (coming_back o met unmet now) memory total
       by_value None g = g
       by_value (Some w) g = backs_by (holds w) met unmet now memory q.to_met q.to_unmet g
 
   -- By a number.
-  pub switches_on : (pc other left : ℕ) (on arms : Span) (h : ℕ → Memory → Outcome Returned) (memory : Memory) (v : Option Value) → Switches t a pc on arms other h
+  pub switches_on : (pc other left : ℕ) (on arms : Span) (h : ℕ → Memory → Outcome Returned) (memory : Memory) (v : Option CValue) → Switches t a pc on arms other h
       → v ≡ evaluated (seen a memory) (code_in t on) → total ≡ h left memory → LeadsOn t a (switching v (arms_in t arms) pc other left) memory total
-  switches_on pc other left on arms h memory v q k e = by_value v (e ∙ (q.comes left memory ∙ ap (λ (o : Option Value). by_number o (λ n. runs_on (q.target n) left memory)) (sym k)))
+  switches_on pc other left on arms h memory v q k e = by_value v (e ∙ (q.comes left memory ∙ ap (λ (o : Option CValue). by_number o (λ n. runs_on (q.target n) left memory)) (sym k)))
     where
-      by_value : (o : Option Value) → total ≡ by_number o (λ n. runs_on (q.target n) left memory) → LeadsOn t a (switching o (arms_in t arms) pc other left) memory total
+      by_value : (o : Option CValue) → total ≡ by_number o (λ n. runs_on (q.target n) left memory) → LeadsOn t a (switching o (arms_in t arms) pc other left) memory total
       by_value None g = g
       by_value (Some (numeric n)) g = leaps_later pc (number_or (arm_of n (arms_in t arms)) other) left memory (q.target n) (q.later n) g
       by_value (Some (address p)) g = g
@@ -106,16 +106,16 @@ module _ (t : FlatText) (a : Activation) (total : Outcome Returned) where
   calls_on pc next now target ended.Lost h e = e
 
   -- A value is returned.
-  pub returns_on : (left : ℕ) (value : Span) (type : CellType) (h : ℕ → Memory → Outcome Returned) (memory : Memory) (v : Option Value) → Returns t a value type h
+  pub returns_on : (left : ℕ) (value : Span) (type : CellType) (h : ℕ → Memory → Outcome Returned) (memory : Memory) (v : Option CValue) → Returns t a value type h
       → v ≡ evaluated (seen a memory) (code_in t value) → total ≡ h left memory → LeadsOn t a (returning v type left) memory total
   returns_on left value type h memory v q k e =
-      by_value v (e ∙ (q left memory ∙ ap (λ (o : Option Value). defined (option_and_then (as_cell type) o) (λ w. Got left (record { memory = memory; value = Some w }))) (sym k)))
+      by_value v (e ∙ (q left memory ∙ ap (λ (o : Option CValue). defined (option_and_then (as_cell type) o) (λ w. Got left (record { memory = memory; value = Some w }))) (sym k)))
     where
-      by_cell : (o : Option Value) → total ≡ defined o (λ w. Got left (record { memory = memory; value = Some w })) → LeadsOn t a (ending o left) memory total
+      by_cell : (o : Option CValue) → total ≡ defined o (λ w. Got left (record { memory = memory; value = Some w })) → LeadsOn t a (ending o left) memory total
       by_cell None g = g
       by_cell (Some w) g = g
 
-      by_value : (o : Option Value) → total ≡ defined (option_and_then (as_cell type) o) (λ w. Got left (record { memory = memory; value = Some w })) → LeadsOn t a (returning o type left) memory total
+      by_value : (o : Option CValue) → total ≡ defined (option_and_then (as_cell type) o) (λ w. Got left (record { memory = memory; value = Some w })) → LeadsOn t a (returning o type left) memory total
       by_value None g = g
       by_value (Some w) g = by_cell (as_cell type w) g
 

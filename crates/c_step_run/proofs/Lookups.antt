@@ -3,7 +3,7 @@ use Rattle.std.proofs.Common.{◌≡◌, ℕ, suc, ◌<◌, ◌≤◌, Bool, tru
 use Rattle.std.specs.Prelude.{if◌then◌else◌, nat_eq, slice_get}
 use Rattle.std.proofs.lemmas.Bool.Decides.{nat_tests}
 use Rattle.turns.specs.Run.{Lost}
-use Rattle.c_meaning.specs.declared.values.Value.{Value}
+use Rattle.c_meaning.specs.declared.values.CValue.{CValue}
 use Rattle.c_meaning.specs.CMemory.{Memory}
 use Rattle.c_meaning.specs.CTypes.{Function}
 use Rattle.c_meaning.specs.CCall.{Program, expression_meaning, expression_call, function_meaning, call_of}
@@ -18,8 +18,8 @@ pub record Found (c : CodeView) (frames args : List FrameView) (p : Program) (ca
   pub coded : IsCoded c frames args p it front
   pub others : AreCoded c frames args p front
   pub size : length front ≡ k
-  pub expression : (memory : Memory) (given : List Value) → expression_at p callable k memory given ≡ expression_meaning p it (expression_call p front) memory given
-  pub meaning : (n : ℕ) (given : List Value) (memory : Memory) → meaning_at p callable k n given memory ≡ function_meaning p it (expression_call p front) (call_of p front) n given memory
+  pub expression : (memory : Memory) (given : List CValue) → expression_at p callable k memory given ≡ expression_meaning p it (expression_call p front) memory given
+  pub meaning : (n : ℕ) (given : List CValue) (memory : Memory) → meaning_at p callable k n given memory ≡ function_meaning p it (expression_call p front) (call_of p front) n given memory
 
 same_number : (k n : ℕ) → nat_eq k n ≡ true → n ≡ k
 same_number k n e = grind (arith, nat_tests, e)
@@ -35,10 +35,10 @@ module _ (c : CodeView) (frames args : List FrameView) (p : Program) where
   found [] k h coded = absurd (omega (arith, h))
   found (f ∷ fs) k h coded = by_number (λ l. found fs k l coded.1) (nat_eq k (length fs)) refl
     where
-      expression_if : (b : Bool) → nat_eq k (length fs) ≡ b → (memory : Memory) (given : List Value) → expression_at p (f ∷ fs) k memory given ≡ (if b then expression_meaning p f (expression_call p fs) else expression_at p fs k) memory given
+      expression_if : (b : Bool) → nat_eq k (length fs) ≡ b → (memory : Memory) (given : List CValue) → expression_at p (f ∷ fs) k memory given ≡ (if b then expression_meaning p f (expression_call p fs) else expression_at p fs k) memory given
       expression_if b e memory given = ap (λ (x : Bool). (if x then expression_meaning p f (expression_call p fs) else expression_at p fs k) memory given) e
 
-      meaning_if : (b : Bool) → nat_eq k (length fs) ≡ b → (n : ℕ) (given : List Value) (memory : Memory) → meaning_at p (f ∷ fs) k n given memory ≡ (if b then function_meaning p f (expression_call p fs) (call_of p fs) else meaning_at p fs k) n given memory
+      meaning_if : (b : Bool) → nat_eq k (length fs) ≡ b → (n : ℕ) (given : List CValue) (memory : Memory) → meaning_at p (f ∷ fs) k n given memory ≡ (if b then function_meaning p f (expression_call p fs) (call_of p fs) else meaning_at p fs k) n given memory
       meaning_if b e n given memory = ap (λ (x : Bool). (if x then function_meaning p f (expression_call p fs) (call_of p fs) else meaning_at p fs k) n given memory) e
 
       further : nat_eq k (length fs) ≡ false → Found c frames args p fs k → Found c frames args p (f ∷ fs) k
@@ -79,13 +79,13 @@ module _ (c : CodeView) (frames args : List FrameView) (p : Program) where
       (one_same frames' args' f fs (a (length fs) (omega arith)) (b (length fs) (omega arith)) h.0, all_same frames' args' fs (λ k l. a k (omega (arith, l))) (λ k l. b k (omega (arith, l))) h.1)
 
 -- Numbers that no function has.
-pub no_expression : (p : Program) (fs : List Function) (k : ℕ) → length fs ≤ k → (memory : Memory) (given : List Value) → expression_at p fs k memory given ≡ None
+pub no_expression : (p : Program) (fs : List Function) (k : ℕ) → length fs ≤ k → (memory : Memory) (given : List CValue) → expression_at p fs k memory given ≡ None
 no_expression p [] k h memory given = refl
 no_expression p (f ∷ fs) k h memory given =
     ap (λ (x : Bool). (if x then expression_meaning p f (expression_call p fs) else expression_at p fs k) memory given) (not_equal k (length fs) (omega (arith, h)))
     ∙ no_expression p fs k (omega (arith, h)) memory given
 
-pub no_meaning : (p : Program) (fs : List Function) (k : ℕ) → length fs ≤ k → (n : ℕ) (given : List Value) (memory : Memory) → meaning_at p fs k n given memory ≡ Lost
+pub no_meaning : (p : Program) (fs : List Function) (k : ℕ) → length fs ≤ k → (n : ℕ) (given : List CValue) (memory : Memory) → meaning_at p fs k n given memory ≡ Lost
 no_meaning p [] k h n given memory = refl
 no_meaning p (f ∷ fs) k h n given memory =
     ap (λ (x : Bool). (if x then function_meaning p f (expression_call p fs) (call_of p fs) else meaning_at p fs k) n given memory) (not_equal k (length fs) (omega (arith, h)))

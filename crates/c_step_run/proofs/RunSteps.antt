@@ -2,9 +2,9 @@
 use Rattle.std.proofs.Common.{◌≡◌, ℕ, zero, suc, ◌+◌, ◌≤◌, Bool, true, false, List, [], ◌∷◌, length, Option, Some, None, refl, sym, ap, ◌∙◌, subst, arith, drop}
 use Rattle.std.specs.Prelude.{slice_get, is_some, option_and_then}
 use Rattle.c_text.specs.CTree.{ExprTree, LocalTree}
-use Rattle.c_meaning.specs.declared.values.Value.{Value}
+use Rattle.c_meaning.specs.declared.values.CValue.{CValue}
 use Rattle.c_meaning.specs.CMemory.{Memory, stored}
-use Rattle.c_meaning.specs.CTypes.{Function, Scope}
+use Rattle.c_meaning.specs.CTypes.{Function, CScope}
 use Rattle.c_meaning.specs.CStep.{Running, surroundings}
 use Rattle.c_meaning.specs.CCall.{Program, scope_in, running, expression_call, call_of, initial_stored, initialized}
 use Rattle.c_meaning.specs.Typed.{shape_of}
@@ -67,7 +67,7 @@ pub after_memory : (a b c : Store) (r : Bool) → KeepsMemory a b → OnTrue r (
 after_memory a b c false h k = tt
 after_memory a b c true h k = record { room = kept_room a b c h.room k.room; shape = k.shape ∙ ap shape_of h.same; empty = k.empty }
 
-pub nothing_on_top : (stack now : List Value) (o : Option Value) → o ≡ slice_get stack 0 → now ≡ drop 1 stack → is_some o ≡ false → now ≡ []
+pub nothing_on_top : (stack now : List CValue) (o : Option CValue) → o ≡ slice_get stack 0 → now ≡ drop 1 stack → is_some o ≡ false → now ≡ []
 nothing_on_top [] now None e n h = n
 nothing_on_top (v ∷ vs) now None e n h = absurd (cc (e))
 nothing_on_top stack now (Some v) e n h = absurd (cc (h))
@@ -83,13 +83,13 @@ initial_is t p f callable frame start field m span (Some x) numbered h =
     ∙ ap (λ (is : List Instr). evaluated (seen_in p callable frame m) is) (sym h))
 
 -- The locals in order.
-pub record LocalAt (t : FlatText) (scope : Scope) (first : ℕ) (locals : List LocalTree) (i : ℕ) (item : Initial) : Type 0 where
+pub record LocalAt (t : FlatText) (scope : CScope) (first : ℕ) (locals : List LocalTree) (i : ℕ) (item : Initial) : Type 0 where
   pub it : LocalTree
   pub is : drop i locals ≡ it ∷ drop (i + 1) locals
   pub field : item.field ≡ first + i
   pub initial : InitialOf t scope it.initial item.value
 
-pub local_at : (t : FlatText) (scope : Scope) (first : ℕ) (locals : List LocalTree) (items : List Initial) (i : ℕ) (item : Initial) → InitialsOf t scope first locals items → slice_get items i ≡ Some item → LocalAt t scope first locals i item
+pub local_at : (t : FlatText) (scope : CScope) (first : ℕ) (locals : List LocalTree) (items : List Initial) (i : ℕ) (item : Initial) → InitialsOf t scope first locals items → slice_get items i ≡ Some item → LocalAt t scope first locals i item
 local_at t scope first [] [] i item h e = absurd (cc (e))
 local_at t scope first [] (x ∷ items) i item h e = absurd h
 local_at t scope first (l ∷ locals) [] i item h e = absurd h
@@ -101,7 +101,7 @@ local_at t scope first (l ∷ locals) (x ∷ items) (suc i) item h e =
     let n : suc i + 1 ≡ suc (i + 1) = omega arith in
     record { it = r.it; is = rw n r.is; field = r.field ∙ omega arith; initial = r.initial }
 
-pub no_more : (t : FlatText) (scope : Scope) (first : ℕ) (locals : List LocalTree) (items : List Initial) (i : ℕ) → InitialsOf t scope first locals items → length items ≤ i → drop i locals ≡ []
+pub no_more : (t : FlatText) (scope : CScope) (first : ℕ) (locals : List LocalTree) (items : List Initial) (i : ℕ) → InitialsOf t scope first locals items → length items ≤ i → drop i locals ≡ []
 no_more t scope first [] [] zero h e = refl
 no_more t scope first [] [] (suc i) h e = refl
 no_more t scope first [] (x ∷ items) i h e = absurd h

@@ -4,7 +4,7 @@ use Rattle.std.specs.Prelude.{slice_get, slice_set, option_map, option_and_then,
 use Rattle.std.proofs.lemmas.List.{length-reverse}
 use Rattle.std.proofs.Math.Seq.{take-length}
 use Rattle.turns.specs.Run.{Outcome, Got, Lost, run}
-use Rattle.c_meaning.specs.declared.values.Value.{Value}
+use Rattle.c_meaning.specs.declared.values.CValue.{CValue}
 use Rattle.c_meaning.specs.CMemory.{Object, Memory}
 use Rattle.c_meaning.specs.CTypes.{Function}
 use Rattle.c_meaning.specs.CStep.{Returned, Running, state, stop, step, weight}
@@ -28,15 +28,15 @@ use Rattle.c_step_run.proofs.Objects.{object_alike, too_few, object_shape_is}
 use Rattle.c_step_run.proofs.Rooms.{rest_below, rest_fewer, fewer_objects, callee_need}
 
 -- The outcome of a call by what its start comes to.
-pub no_frame : (r : Running) (f : Function) (given : List Value) (m : Memory) (n : ℕ) → frame_object f given ≡ None → started r f given m n ≡ Lost
+pub no_frame : (r : Running) (f : Function) (given : List CValue) (m : Memory) (n : ℕ) → frame_object f given ≡ None → started r f given m n ≡ Lost
 no_frame r f given m n e = ap (λ (o : Option Object). without_frame (length m) (body_run r f n (option_and_then (λ fields. initialized r (length f.params) f.locals (m ++ fields ∷ [])) o))) e
 
-pub no_initials : (r : Running) (f : Function) (given : List Value) (m : Memory) (n : ℕ) (object : Object) → frame_object f given ≡ Some object → initialized r (length f.params) f.locals (m ++ object ∷ []) ≡ None → started r f given m n ≡ Lost
+pub no_initials : (r : Running) (f : Function) (given : List CValue) (m : Memory) (n : ℕ) (object : Object) → frame_object f given ≡ Some object → initialized r (length f.params) f.locals (m ++ object ∷ []) ≡ None → started r f given m n ≡ Lost
 no_initials r f given m n object e h =
     ap (λ (o : Option Object). without_frame (length m) (body_run r f n (option_and_then (λ fields. initialized r (length f.params) f.locals (m ++ fields ∷ [])) o))) e
     ∙ ap (λ (o : Option Memory). without_frame (length m) (body_run r f n o)) h
 
-pub starts : (r : Running) (f : Function) (given : List Value) (m now : Memory) (n : ℕ) (object : Object) → frame_object f given ≡ Some object → initialized r (length f.params) f.locals (m ++ object ∷ []) ≡ Some now
+pub starts : (r : Running) (f : Function) (given : List CValue) (m now : Memory) (n : ℕ) (object : Object) → frame_object f given ≡ Some object → initialized r (length f.params) f.locals (m ++ object ∷ []) ≡ Some now
     → started r f given m n ≡ without_frame (length m) (run (step r) weight n (state f.body stop now))
 starts r f given m now n object e h =
     ap (λ (o : Option Object). without_frame (length m) (body_run r f n (option_and_then (λ fields. initialized r (length f.params) f.locals (m ++ fields ∷ [])) o))) e
@@ -46,31 +46,31 @@ starts r f given m now n object e h =
 pub own_frame : (c : CodeView) (frames args : List FrameView) (p : Program) (f : Function) (callable : List Function) (k : ℕ) (v : FrameView) → IsCoded c frames args p f callable → length callable ≡ k → slice_get frames k ≡ Some v → v ≡ frame_of f
 own_frame c frames args p f callable k v coded size e = let q : Some v ≡ Some (frame_of f) = sym e ∙ (ap (slice_get frames) (sym size) ∙ coded.frame) in cc (q)
 
-object_of : (f : Function) (v : FrameView) → v ≡ frame_of f → (given : List Value) → frame_object f given ≡ call_object v.params v.locals given
+object_of : (f : Function) (v : FrameView) → v ≡ frame_of f → (given : List CValue) → frame_object f given ≡ call_object v.params v.locals given
 object_of f v e given = object_alike f given ∙ ap (λ (x : FrameView). call_object x.params x.locals given) (sym e)
 
-all_on_top : (v : FrameView) (stack : List Value) → length stack ≡ length v.params → on_top (length v.params) stack ≡ reverse stack
+all_on_top : (v : FrameView) (stack : List CValue) → length stack ≡ length v.params → on_top (length v.params) stack ≡ reverse stack
 all_on_top v stack e = ap (λ (n : ℕ). reverse (take n stack)) (sym e) ∙ ap reverse (take-length stack)
 
 no_object_if : (o : Option (List _)) → o ≡ None → (us : List _) → option_map (λ fields. fields ++ unset_cells us) o ≡ None
 no_object_if o e us = ap (option_map (λ fields. fields ++ unset_cells us)) e
 
-pub wrong_length : (f : Function) (v : FrameView) (stack : List Value) → v ≡ frame_of f → (length stack ≡ length v.params → ⊥) → frame_object f (reverse stack) ≡ None
+pub wrong_length : (f : Function) (v : FrameView) (stack : List CValue) → v ≡ frame_of f → (length stack ≡ length v.params → ⊥) → frame_object f (reverse stack) ≡ None
 wrong_length f v stack e h =
     object_of f v e (reverse stack)
     ∙ no_object_if (passed_cells v.params (reverse stack)) (too_few v.params (reverse stack) (λ q. h (sym (length-reverse stack) ∙ sym q))) v.locals
 
-pub entered_none : (f : Function) (v : FrameView) (m now : Memory) (stack left : List Value) → v ≡ frame_of f → length stack ≡ length v.params → Enters v m stack false now left → frame_object f (reverse stack) ≡ None
+pub entered_none : (f : Function) (v : FrameView) (m now : Memory) (stack left : List CValue) → v ≡ frame_of f → length stack ≡ length v.params → Enters v m stack false now left → frame_object f (reverse stack) ≡ None
 entered_none f v m now stack left e n h = object_of f v e (reverse stack) ∙ (ap (call_object v.params v.locals) (sym (all_on_top v stack n)) ∙ h.0)
 
-pub entered_some : (f : Function) (v : FrameView) (m now : Memory) (stack left : List Value) → v ≡ frame_of f → length stack ≡ length v.params → (h : Enters v m stack true now left) → frame_object f (reverse stack) ≡ Some h.0
+pub entered_some : (f : Function) (v : FrameView) (m now : Memory) (stack left : List CValue) → v ≡ frame_of f → length stack ≡ length v.params → (h : Enters v m stack true now left) → frame_object f (reverse stack) ≡ Some h.0
 entered_some f v m now stack left e n h = object_of f v e (reverse stack) ∙ (ap (call_object v.params v.locals) (sym (all_on_top v stack n)) ∙ h.1)
 
 drop_all : {A : Type 0} (xs : List A) → drop (length xs) xs ≡ []
 drop_all [] = refl
 drop_all (x ∷ xs) = drop_all xs
 
-pub nothing_left : (v : FrameView) (m now : Memory) (stack left : List Value) → length stack ≡ length v.params → Enters v m stack true now left → left ≡ []
+pub nothing_left : (v : FrameView) (m now : Memory) (stack left : List CValue) → length stack ≡ length v.params → Enters v m stack true now left → left ≡ []
 nothing_left v m now stack left n h = h.3 ∙ (ap (λ (k : ℕ). drop k stack) (sym n) ∙ drop_all stack)
 
 -- The body begins at its number.
@@ -101,15 +101,15 @@ split_last (a ∷ m) object (x ∷ xs) e =
     let r : SplitLast m object xs = split_last m object xs t in
     record { last = r.last; is = ap (λ ys. x ∷ ys) r.is; shape = r.shape; front = ap (λ z. z ∷ shape_of (take (length m) xs)) s ∙ ap (λ zs. object_shape a ∷ zs) r.front }
 
-pub entered_split : (v : FrameView) (m entered now : Memory) (stack left : List Value) → (h : Enters v m stack true entered left) → shape_of now ≡ shape_of entered → SplitLast m h.0 now
+pub entered_split : (v : FrameView) (m entered now : Memory) (stack left : List CValue) → (h : Enters v m stack true entered left) → shape_of now ≡ shape_of entered → SplitLast m h.0 now
 entered_split v m entered now stack left h e = split_last m h.0 now (e ∙ ap shape_of h.2)
 
-pub ends_there : (v : FrameView) (m entered now : Memory) (stack left : List Value) (frames : List FrameView) (k : ℕ) → (h : Enters v m stack true entered left) → shape_of now ≡ shape_of entered → slice_get frames k ≡ Some (record v { rests = false }) → EndsInCall frames k now
+pub ends_there : (v : FrameView) (m entered now : Memory) (stack left : List CValue) (frames : List FrameView) (k : ℕ) → (h : Enters v m stack true entered left) → shape_of now ≡ shape_of entered → slice_get frames k ≡ Some (record v { rests = false }) → EndsInCall frames k now
 ends_there v m entered now stack left frames k h e at =
     let r : SplitLast m h.0 now = entered_split v m entered now stack left h e in
     (record v { rests = false }, at, record { front = take (length m) now; last = r.last; is = r.is; shape = r.shape ∙ object_shape_is v.params v.locals _ h.0 h.1 })
 
-pub leaves_front : (left : ℕ) (value : Option Value) (m entered now after : Memory) → take (length m) now ≡ after → without_frame (length m) (Got left (record { memory = now; value = value })) ≡ Got left (record { memory = after; value = value })
+pub leaves_front : (left : ℕ) (value : Option CValue) (m entered now after : Memory) → take (length m) now ≡ after → without_frame (length m) (Got left (record { memory = now; value = value })) ≡ Got left (record { memory = after; value = value })
 leaves_front left value m entered now after e = ap (λ (x : Memory). Got left (record { memory = x; value = value })) e
 
 -- Statements can be run after the entry.
@@ -132,8 +132,8 @@ can_start c at old st v h get same_args new_frames room size n enters =
     }
 
 -- A call in the run of its caller.
-pub given_then : (g : Option (List Value)) (vs : List Value) (f : List Value → Outcome Returned) → g ≡ Some vs → defined g f ≡ f vs
-given_then g vs f e = ap (λ (o : Option (List Value)). defined o f) e
+pub given_then : (g : Option (List CValue)) (vs : List CValue) (f : List CValue → Outcome Returned) → g ≡ Some vs → defined g f ≡ f vs
+given_then g vs f e = ap (λ (o : Option (List CValue)). defined o f) e
 
 -- The function that stands under a number.
 pub coded_func : (c : CodeView) (frames args : List FrameView) (p : Program) (f : Function) (callable : List Function) (k : ℕ) (x : Func) (coded : IsCoded c frames args p f callable) → length callable ≡ k → slice_get c.functions k ≡ Some x → coded.func ≡ x

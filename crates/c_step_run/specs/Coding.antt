@@ -5,7 +5,7 @@ use Rattle.std.specs.Option.{option_map_or}
 use Rattle.c_text.specs.declared.kinds.Linkage.{Linkage}
 use Rattle.c_text.specs.declared.kinds.Linkage.TheVariants.{External, Static, StaticInline}
 use Rattle.c_text.specs.CTree.{TypeTree, ExprTree, LocalTree}
-use Rattle.c_meaning.specs.CTypes.{Function, Scope, returned}
+use Rattle.c_meaning.specs.CTypes.{Function, CScope, returned}
 use Rattle.c_meaning.specs.CExprs.{cell_type}
 use Rattle.c_meaning.specs.CStep.{code_weight}
 use Rattle.c_meaning.specs.CCall.{Program, scope_in}
@@ -33,19 +33,19 @@ is_static External = false
 is_static StaticInline = false
 
 -- What a function in an expression returns, and what that is converted to; none where it has no meaning there.
-abbrev pub InlineOf : FlatText → Scope → (value : Option ExprTree) → Option TypeTree → Option Inline → Type 0
+abbrev pub InlineOf : FlatText → CScope → (value : Option ExprTree) → Option TypeTree → Option Inline → Type 0
 InlineOf t scope (Some e) (Some type) (Some it) = (code_in t it.value ≡ value_code scope e) × (it.ty ≡ cell_type type)
 InlineOf t scope (Some e) (Some type) None = ⊥
 InlineOf t scope (Some e) None it = it ≡ None
 InlineOf t scope None type it = it ≡ None
 
 -- The initial value of a local, and the locals in order, the first of which is the field with a number.
-abbrev pub InitialOf : FlatText → Scope → Option ExprTree → Option Span → Type 0
+abbrev pub InitialOf : FlatText → CScope → Option ExprTree → Option Span → Type 0
 InitialOf t scope None None = Unit {0}
 InitialOf t scope (Some e) (Some span) = code_in t span ≡ value_code scope e
 InitialOf t scope initial span = ⊥
 
-abbrev pub InitialsOf : FlatText → Scope → (field : ℕ) → List LocalTree → List Initial → Type 0
+abbrev pub InitialsOf : FlatText → CScope → (field : ℕ) → List LocalTree → List Initial → Type 0
 InitialsOf t scope field [] [] = Unit {0}
 InitialsOf t scope field (l ∷ ls) (i ∷ is) = (i.field ≡ field) × InitialOf t scope l.initial i.value × InitialsOf t scope (field + 1) ls is
 InitialsOf t scope field ls is = ⊥

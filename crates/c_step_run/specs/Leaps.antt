@@ -1,8 +1,8 @@
 -- Where a statement leads, by what it has found.
 use Rattle.std.specs.Prelude.{ℕ, zero, suc, Bool, true, false, if◌then◌else◌, nat_lt, List, Option, Some, None}
 use Rattle.c_meaning.specs.declared.cells.CellType.{CellType}
-use Rattle.c_meaning.specs.declared.values.Value.{Value}
-use Rattle.c_meaning.specs.declared.values.Value.TheVariants.{Numeric as numeric, Address as address, NullPointer as null_pointer}
+use Rattle.c_meaning.specs.declared.values.CValue.{CValue}
+use Rattle.c_meaning.specs.declared.values.CValue.TheVariants.{Numeric as numeric, Address as address, NullPointer as null_pointer}
 use Rattle.c_meaning.specs.CValues.{holds}
 use Rattle.c_step_exprs.specs.Instrs.{as_cell}
 use Rattle.c_step_text.specs.declared.text.Arm.{Arm}
@@ -39,27 +39,27 @@ going_back ended.More pc next = moved.Turns
 going_back ended.Lost pc next = moved.Undefined
 
 -- By a condition.
-abbrev pub testing : Option Value → (pc met unmet left : ℕ) → Moved
+abbrev pub testing : Option CValue → (pc met unmet left : ℕ) → Moved
 testing None pc met unmet left = moved.Undefined
 testing (Some v) pc met unmet left = if holds v then leaping pc met left else leaping pc unmet left
 
 -- By a condition, after the turn of a loop.
-abbrev pub coming_back : Option Value → (met unmet left : ℕ) → Moved
+abbrev pub coming_back : Option CValue → (met unmet left : ℕ) → Moved
 coming_back None met unmet left = moved.Undefined
 coming_back (Some v) met unmet left = if holds v then moved.Goes met left else moved.Goes unmet left
 
 -- By a number.
-abbrev pub switching : Option Value → List Arm → (pc other left : ℕ) → Moved
+abbrev pub switching : Option CValue → List Arm → (pc other left : ℕ) → Moved
 switching (Some (numeric n)) arms pc other left = leaping pc (number_or (arm_of n arms) other) left
 switching (Some (address p)) arms pc other left = moved.Undefined
 switching (Some null_pointer) arms pc other left = moved.Undefined
 switching None arms pc other left = moved.Undefined
 
 -- A value is returned, converted to a type.
-abbrev pub ending : Option Value → (left : ℕ) → Moved
+abbrev pub ending : Option CValue → (left : ℕ) → Moved
 ending None left = moved.Undefined
 ending (Some v) left = moved.Ends (Some v) left
 
-abbrev pub returning : Option Value → CellType → (left : ℕ) → Moved
+abbrev pub returning : Option CValue → CellType → (left : ℕ) → Moved
 returning None type left = moved.Undefined
 returning (Some v) type left = ending (as_cell type v) left

@@ -2,7 +2,7 @@
 use Rattle.std.specs.Prelude.{◌≡◌, ℕ, ◌<◌, ◌≤◌, ◌⊎◌, Bool, true, false, List, reverse, Option, Some, None}
 use Rattle.turns.specs.Run.{Outcome, Got, More, Lost}
 use Rattle.c_text.specs.CTree.{Code}
-use Rattle.c_meaning.specs.declared.values.Value.{Value}
+use Rattle.c_meaning.specs.declared.values.CValue.{CValue}
 use Rattle.c_meaning.specs.CMemory.{Memory}
 use Rattle.c_meaning.specs.CTypes.{Function}
 use Rattle.c_meaning.specs.CStep.{Continuation, Returned}
@@ -34,7 +34,7 @@ OnTrue true holds = holds
 OnTrue false holds = Unit {0}
 
 -- What a call in an expression makes of the stack.
-abbrev pub called_by_instr : Around → Instr → List Value → Option (List Value)
+abbrev pub called_by_instr : Around → Instr → List CValue → Option (List CValue)
 called_by_instr a (does.Call function count) stack = calls a function count stack
 called_by_instr a (does.Put it) stack = None
 called_by_instr a (does.Turn it) stack = None
@@ -82,7 +82,7 @@ after_kept ended.More memory on = More
 after_kept ended.Lost memory on = Lost
 
 -- The arguments of a call stand on the stack, the last one on top.
-abbrev pub Gives : Option (List Value) → Bool → (stack : List Value) → Type 0
+abbrev pub Gives : Option (List CValue) → Bool → (stack : List CValue) → Type 0
 Gives given true stack = given ≡ Some (reverse stack)
 Gives given false stack = given ≡ None
 

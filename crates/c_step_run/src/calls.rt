@@ -1,6 +1,6 @@
 // Calls, and the run of a function's text (ISO/IEC 9899:1999, 6.5.2.2, 6.8, 6.9.1).
 
-ghost use Rattle.std.specs.Prelude.{◌≡◌, ◌<◌, ◌+◌, ◌^◌, ℕ, [], ◌∷◌, List, Option, Some, reverse, length, slice_get, slice_range, option_map, IfSome};
+ghost use Rattle.std.specs.Prelude.{◌≡◌, ◌<◌, ◌+◌, ℕ, [], ◌∷◌, List, Option, Some, reverse, length, slice_get, slice_range, option_map, IfSome};
 ghost use Rattle.turns.specs.Run.{Outcome};
 ghost use Rattle.c_text.specs.CTree.{ExprTree, LocalTree};
 ghost use Rattle.c_meaning.specs.CMemory.{Memory};
@@ -21,7 +21,7 @@ use crate::leaps::{comes_back, entry, goes_back, leap, moves, returns, switches,
 use crate::moved::{Ended, Moved};
 use crate::store::{Active, Store, enter_call, leave_call, param_count};
 use crate::stores::assign_to;
-use c_meaning::values::{Pointer, Value};
+use c_meaning::values::{CValue, Pointer};
 use c_step_exprs::is_same_pointer;
 use c_step_text::{Span, StmtInstr};
 
@@ -278,7 +278,7 @@ impl Code {
         &self,
         target: Option<Span>,
         before: Option<Pointer>,
-        value: Option<Value>,
+        value: Option<CValue>,
         at: Active,
         st: &mut Store,
     ) -> bool

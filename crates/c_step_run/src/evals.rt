@@ -1,7 +1,7 @@
 // The value of an expression with the calls in it (ISO/IEC 9899:1999, 6.5, 6.5.2.2).
 
-ghost use Rattle.std.specs.Prelude.{◌≡◌, ◌<◌, ◌≤◌, ◌+◌, ◌∷◌, ℕ, List, Option, length, slice_get, option_map, option_and_then, Some, IfSome};
-ghost use Rattle.c_meaning.specs.declared.values.Value.{Value as AnyValue};
+ghost use Rattle.std.specs.Prelude.{◌≡◌, ◌<◌, ◌≤◌, ◌+◌, ◌∷◌, List, Option, length, slice_get, option_map, option_and_then, Some, IfSome};
+ghost use Rattle.c_meaning.specs.declared.values.CValue.{CValue as AnyValue};
 ghost use Rattle.c_meaning.specs.CTypes.{Function};
 ghost use Rattle.c_meaning.specs.CCall.{Program};
 ghost use Rattle.c_mem.specs.MemoryViews.{memory};
@@ -16,7 +16,7 @@ ghost use Rattle.c_step_run.specs.Meaning.{seen_in, Comes, OnTrue, called_by_ins
 
 use crate::code::{Code, Inline};
 use crate::store::{Active, Store, enter_call, leave_call, param_count};
-use c_meaning::values::Value;
+use c_meaning::values::CValue;
 use c_step_exprs::{Instr, Stack, Stop, cast, run};
 use c_step_text::Span;
 
@@ -31,7 +31,7 @@ fn call_at(code: &[Instr], call: usize) -> Instr
 }
 
 /// Puts a value, where there is one.
-fn put_given(given: Option<Value>, stack: &mut Stack) -> bool
+fn put_given(given: Option<CValue>, stack: &mut Stack) -> bool
     requires { length (on_stack stack.old) < most stack.old }
     ensures means { Comes (pushed given (on_stack stack.old)) result (on_stack stack.new) }
     ensures puts { length (on_stack stack.new) ≤ length (on_stack stack.old) + 1 }
@@ -136,7 +136,7 @@ impl Code {
 
     /// What a function in an expression returns, whose call's object is the last one. The stack is as before.
     #[cycle(eval)]
-    fn returned(&self, inline: Inline, at: Active, st: &mut Store) -> Option<Value>
+    fn returned(&self, inline: Inline, at: Active, st: &mut Store) -> Option<CValue>
         requires ready { CanEval self.now at (length (code_in self.now.text inline.value)) st.old }
         ensures keeps { KeepsMemory st.old st.new }
         ensures stack { length (on_stack st.new.stack) ≤ length (on_stack st.old.stack) }

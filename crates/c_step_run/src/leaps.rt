@@ -6,7 +6,7 @@ ghost use Rattle.c_step_run.specs.Leaps.{entering, leaping, moving, going_back, 
 
 use crate::moved::{Ended, Moved};
 use c_meaning::cells::CellType;
-use c_meaning::values::{Number, Value};
+use c_meaning::values::{CValue, Number};
 use c_step_exprs::{cast, convert, value_holds};
 use c_step_text::Arm;
 
@@ -71,7 +71,7 @@ pub(crate) fn goes_back(ended: Ended, pc: usize, next: usize) -> Moved
 }
 
 /// By a condition (6.8.4.1p2).
-pub(crate) fn tests(v: Option<Value>, pc: usize, met: usize, unmet: usize, left: u64) -> Moved
+pub(crate) fn tests(v: Option<CValue>, pc: usize, met: usize, unmet: usize, left: u64) -> Moved
     ensures { result ≡ testing v pc met unmet left }
 {
     match v {
@@ -87,7 +87,7 @@ pub(crate) fn tests(v: Option<Value>, pc: usize, met: usize, unmet: usize, left:
 }
 
 /// By a condition, after the turn of a loop (6.8.5p4).
-pub(crate) fn comes_back(v: Option<Value>, met: usize, unmet: usize, left: u64) -> Moved
+pub(crate) fn comes_back(v: Option<CValue>, met: usize, unmet: usize, left: u64) -> Moved
     ensures { result ≡ coming_back v met unmet left }
 {
     match v {
@@ -103,20 +103,20 @@ pub(crate) fn comes_back(v: Option<Value>, met: usize, unmet: usize, left: u64) 
 }
 
 /// By a number (6.8.4.2p5).
-pub(crate) fn switches(v: Option<Value>, arms: &[Arm], pc: usize, other: usize, left: u64) -> Moved
+pub(crate) fn switches(v: Option<CValue>, arms: &[Arm], pc: usize, other: usize, left: u64) -> Moved
     ensures { result ≡ switching v arms.now pc other left }
 {
     match v {
-        Some(Value::Numeric(n)) => match arm(n, arms) {
+        Some(CValue::Numeric(n)) => match arm(n, arms) {
             Some(to) => leap(pc, to, left),
             None => leap(pc, other, left),
         },
-        Some(Value::Address(_)) | Some(Value::NullPointer) | None => Moved::Undefined,
+        Some(CValue::Address(_)) | Some(CValue::NullPointer) | None => Moved::Undefined,
     }
 }
 
 /// Returns a value, converted to the type of the function's result (6.8.6.4p3).
-pub(crate) fn returns(v: Option<Value>, ty: CellType, left: u64) -> Moved
+pub(crate) fn returns(v: Option<CValue>, ty: CellType, left: u64) -> Moved
     ensures { result ≡ returning v ty left }
 {
     match v {

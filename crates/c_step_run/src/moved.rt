@@ -1,6 +1,6 @@
 // Where a step or a call has come to.
 
-use c_meaning::values::Value;
+use c_meaning::values::CValue;
 
 /// Where an instruction leads.
 #[derive(Clone, Copy)]
@@ -15,7 +15,7 @@ pub(crate) enum Moved {
     /// The function has returned.
     Ends {
         /// What it has returned.
-        value: Option<Value>,
+        value: Option<CValue>,
         /// The turns that are left.
         left: u64,
     },
@@ -31,7 +31,7 @@ pub enum Ended {
     /// It has returned.
     Got {
         /// What it has returned.
-        value: Option<Value>,
+        value: Option<CValue>,
         /// The turns that are left.
         left: u64,
     },

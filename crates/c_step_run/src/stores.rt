@@ -1,23 +1,22 @@
 // What statements do to memory (ISO/IEC 9899:1999, 6.5.16, 7.21.2.2, 7.21.6.1).
 
-ghost use Rattle.std.specs.Prelude.{◌≡◌, ℕ, [], List, map, Some, option_and_then, length};
+ghost use Rattle.std.specs.Prelude.{◌≡◌, ℕ, List, Some, length};
 ghost use Rattle.c_meaning.specs.CMemory.{stored};
 ghost use Rattle.c_meaning.specs.CTypes.{Function};
 ghost use Rattle.c_meaning.specs.CStep.{assigned, as_size, moves, zeroes};
 ghost use Rattle.c_meaning.specs.CCall.{Program};
 ghost use Rattle.c_meaning.specs.Typed.{shape_of};
 ghost use Rattle.c_mem.specs.MemoryViews.{memory, HasRoom};
-ghost use Rattle.c_step_exprs.specs.Stacks.{on_stack};
 ghost use Rattle.c_step_text.specs.Flat.{code_in};
 ghost use Rattle.c_step_text.specs.Acting.{evaluated, located, given_by, moved_by};
 ghost use Rattle.c_step_run.specs.Coding.{AreCoded};
-ghost use Rattle.c_step_run.specs.Ready.{CanRun, KeepsRoom, KeepsShape};
+ghost use Rattle.c_step_run.specs.Ready.{CanRun, KeepsShape};
 ghost use Rattle.c_step_run.specs.Meaning.{seen_in, Comes, OnTrue};
 
 use crate::code::Code;
 use crate::store::{Active, Store};
 use crate::values::pointer_of;
-use c_meaning::values::{Pointer, Value};
+use c_meaning::values::{CValue, Pointer};
 use c_mem::Mem;
 use c_step_exprs::{cell_for, convert};
 use c_step_text::Span;
@@ -25,7 +24,7 @@ use wf_num::CTy;
 
 /// Assigns a value to a place. False where that isn't defined.
 #[tactic(auto, using(crate::proofs::Shapes::stores_shape))]
-pub(crate) fn assign_to(mem: &mut Mem, p: Pointer, v: Value) -> bool
+pub(crate) fn assign_to(mem: &mut Mem, p: Pointer, v: CValue) -> bool
     ensures means { Comes (stored (memory mem.old) p v) result (memory mem.new) }
     ensures shape { OnTrue result (shape_of (memory mem.new) ≡ shape_of (memory mem.old)) }
     ensures room { (more : ℕ) → HasRoom mem.old more → HasRoom mem.new more }
@@ -40,12 +39,12 @@ pub(crate) fn assign_to(mem: &mut Mem, p: Pointer, v: Value) -> bool
 }
 
 /// A number of bytes.
-fn size_of(v: Option<Value>) -> Option<u64>
+fn size_of(v: Option<CValue>) -> Option<u64>
     ensures { result ≡ as_size v }
 {
     match v {
-        Some(Value::Numeric(n)) => Some(convert(CTy::U64, n).bits),
-        Some(Value::Address(_)) | Some(Value::NullPointer) | None => None,
+        Some(CValue::Numeric(n)) => Some(convert(CTy::U64, n).bits),
+        Some(CValue::Address(_)) | Some(CValue::NullPointer) | None => None,
     }
 }
 

@@ -1,6 +1,6 @@
 // The values of expressions in a statement (ISO/IEC 9899:1999, 6.5): the stack is empty before and after.
 
-ghost use Rattle.std.specs.Prelude.{◌≡◌, ℕ, [], List, length};
+ghost use Rattle.std.specs.Prelude.{◌≡◌, [], List, length};
 ghost use Rattle.c_meaning.specs.CTypes.{Function};
 ghost use Rattle.c_meaning.specs.CExprs.{pointed_place};
 ghost use Rattle.c_meaning.specs.CCall.{Program};
@@ -14,12 +14,12 @@ ghost use Rattle.c_step_run.specs.Meaning.{seen_in, Gives};
 
 use crate::code::Code;
 use crate::store::{Active, Store};
-use c_meaning::values::{Pointer, Value};
+use c_meaning::values::{CValue, Pointer};
 use c_step_text::Span;
 
 impl Code {
     /// The value of an expression of the function with a number.
-    pub(crate) fn value(&self, span: Span, at: Active, st: &mut Store) -> Option<Value>
+    pub(crate) fn value(&self, span: Span, at: Active, st: &mut Store) -> Option<CValue>
         requires ready { CanRun self.now at st.old }
         ensures keeps { KeepsMemory st.old st.new }
         ensures empty { on_stack st.new.stack ≡ [] }
@@ -55,11 +55,11 @@ impl Code {
 }
 
 /// The place that a value points to.
-pub(crate) fn pointer_of(v: Option<Value>) -> Option<Pointer>
+pub(crate) fn pointer_of(v: Option<CValue>) -> Option<Pointer>
     ensures { result ≡ pointed_place v }
 {
     match v {
-        Some(Value::Address(p)) => Some(p),
-        Some(Value::Numeric(_)) | Some(Value::NullPointer) | None => None,
+        Some(CValue::Address(p)) => Some(p),
+        Some(CValue::Numeric(_)) | Some(CValue::NullPointer) | None => None,
     }
 }

@@ -9,8 +9,8 @@ use Rattle.turns.proofs.Unfolds.{unfolds}
 use Rattle.c_text.specs.CTree.{TypeTree, ExprTree, Args, no_arg, expr_arg, sizeof_arg, Code, finish, nested, empty, assign, call, jump, branch, repeat, select, leave, case_label, default_label, name_label}
 use Rattle.c_meaning.specs.declared.values.Number.{Number}
 use Rattle.c_meaning.specs.declared.values.Pointer.{Pointer}
-use Rattle.c_meaning.specs.declared.values.Value.{Value}
-use Rattle.c_meaning.specs.declared.values.Value.TheVariants.{Numeric as numeric, Address as address, NullPointer as null_pointer}
+use Rattle.c_meaning.specs.declared.values.CValue.{CValue}
+use Rattle.c_meaning.specs.declared.values.CValue.TheVariants.{Numeric as numeric, Address as address, NullPointer as null_pointer}
 use Rattle.c_meaning.specs.CValues.{holds}
 use Rattle.c_meaning.specs.CMemory.{Memory, stored}
 use Rattle.c_meaning.specs.CExprs.{value, place, pointed_place, cell_type, as_type, arg_values, all_some}
@@ -56,7 +56,7 @@ module _ (r : Running) where
   after_if left true met unmet = refl
   after_if left false met unmet = refl
 
-  after_test : (left : ℕ) (o : Option Value) (met unmet : State) → on_from left (by_test o (Go met) (Go unmet)) ≡ tested o (run (step r) weight left met) (run (step r) weight left unmet)
+  after_test : (left : ℕ) (o : Option CValue) (met unmet : State) → on_from left (by_test o (Go met) (Go unmet)) ≡ tested o (run (step r) weight left met) (run (step r) weight left unmet)
   after_test left None met unmet = refl
   after_test left (Some v) met unmet = after_if left (holds v) met unmet
 
@@ -70,7 +70,7 @@ module _ (r : Running) where
   after_back zero test body k memory = refl
   after_back (suc left) test body k memory = by_value (value (surroundings r memory) test)
     where
-      by_value : (o : Option Value) → on_from (suc left) (by_test o (Turn left (state body (again test body k) memory)) (Turn left (state finish k memory))) ≡ tested o (run (step r) weight left (state body (again test body k) memory)) (run (step r) weight left (state finish k memory))
+      by_value : (o : Option CValue) → on_from (suc left) (by_test o (Turn left (state body (again test body k) memory)) (Turn left (state finish k memory))) ≡ tested o (run (step r) weight left (state body (again test body k) memory)) (run (step r) weight left (state finish k memory))
       by_value None = refl
       by_value (Some v) = after_turn_if (suc left) left (holds v) (state body (again test body k) memory) (state finish k memory)
 
@@ -79,7 +79,7 @@ module _ (r : Running) where
   after_leap false zero p memory = refl
   after_leap false (suc left) p memory = refl
 
-  after_return : (left : ℕ) (memory : Memory) (o : Option Value) → on_from left (returns left memory o) ≡ defined o (λ v. Got left (record { memory = memory; value = Some v }))
+  after_return : (left : ℕ) (memory : Memory) (o : Option CValue) → on_from left (returns left memory o) ≡ defined o (λ v. Got left (record { memory = memory; value = Some v }))
   after_return left memory None = refl
   after_return left memory (Some v) = refl
 
@@ -153,7 +153,7 @@ module _ (t : FlatText) (a : Activation) (laid_all : IsLaid t a) (numbered : IsN
     is = λ left memory. first left memory (assign e v rest) k
         ∙ (after_memory a.running left rest k (assigned memory (place (surroundings a.running memory) e) (value (surroundings a.running memory) v))
         ∙ sym (ap (λ (o : Option Pointer). defined (assigned memory o (evaluated (seen a memory) (code_in t l.of.span))) (runs a rest k left)) (place_at memory l.place e l.code)
-        ∙ ap (λ (o : Option Value). defined (assigned memory (place (surroundings a.running memory) e) o) (runs a rest k left)) (value_at memory l.of.span v l.of.code)));
+        ∙ ap (λ (o : Option CValue). defined (assigned memory (place (surroundings a.running memory) e) o) (runs a rest k left)) (value_at memory l.of.span v l.of.code)));
     does = record { target = target next rest k s; later = after; comes = λ left memory. refl };
   }
 
@@ -163,15 +163,15 @@ module _ (t : FlatText) (a : Activation) (laid_all : IsLaid t a) (numbered : IsN
   same_kept None (Some span) memory done h = absurd h
   same_kept (Some e) None memory done h = absurd h
   same_kept (Some e) (Some span) memory done h =
-      sym (ap (λ (o : Option Pointer). option_and_then (λ (v : Value). option_and_then (λ p. stored done.memory p v) (one_place o (located (seen a done.memory) (code_in t span)))) done.value) (place_at memory span e h)
-      ∙ ap (λ (o : Option Pointer). option_and_then (λ (v : Value). option_and_then (λ p. stored done.memory p v) (one_place (place (surroundings a.running memory) e) o)) done.value) (place_at done.memory span e h))
+      sym (ap (λ (o : Option Pointer). option_and_then (λ (v : CValue). option_and_then (λ p. stored done.memory p v) (one_place o (located (seen a done.memory) (code_in t span)))) done.value) (place_at memory span e h)
+      ∙ ap (λ (o : Option Pointer). option_and_then (λ (v : CValue). option_and_then (λ p. stored done.memory p v) (one_place (place (surroundings a.running memory) e) o)) done.value) (place_at done.memory span e h))
 
-  called_lost : (left : ℕ) (e : Option ExprTree) (meaning : Meaning) (given : Option (List Value)) (rest : Code) (k : Continuation) (memory : Memory) → ((values : List Value) → meaning left values memory ≡ Lost)
+  called_lost : (left : ℕ) (e : Option ExprTree) (meaning : Meaning) (given : Option (List CValue)) (rest : Code) (k : Continuation) (memory : Memory) → ((values : List CValue) → meaning left values memory ≡ Lost)
       → on_from a.running left (calls a.running left e meaning given rest k memory) ≡ Lost
   called_lost left e meaning None rest k memory h = refl
   called_lost left e meaning (Some values) rest k memory h = lost_meaning a.running left (meaning left values memory) _ (h values)
 
-  called_by : (left : ℕ) (e : Option ExprTree) (span : Option Span) (meaning : Meaning) (given : Option (List Value)) (rest : Code) (k : Continuation) (memory : Memory) → IsTarget t (names_of a) e span → ((values : List Value) → LeavesFewer left (meaning left values memory))
+  called_by : (left : ℕ) (e : Option ExprTree) (span : Option Span) (meaning : Meaning) (given : Option (List CValue)) (rest : Code) (k : Continuation) (memory : Memory) → IsTarget t (names_of a) e span → ((values : List CValue) → LeavesFewer left (meaning left values memory))
       → on_from a.running left (calls a.running left e meaning given rest k memory)
       ≡ defined given (λ values. after_call (meaning left values memory) (λ now done. defined (kept_by a (option_map (code_in t) span) memory done) (runs a rest k now)))
   called_by left e span meaning None rest k memory is fewer = refl
@@ -179,7 +179,7 @@ module _ (t : FlatText) (a : Activation) (laid_all : IsLaid t a) (numbered : IsN
       after_holding a.running left (meaning left values memory) _ (λ now done. defined (kept_by a (option_map (code_in t) span) memory done) (runs a rest k now)) (fewer values)
       (λ now done h. after_kept a.running left now rest k (kept a.running memory e done) h ∙ ap (λ (o : Option Memory). defined o (runs a rest k now)) (same_kept e span memory done is))
 
-  after_meaning : (left : ℕ) (rest : Code) (k : Continuation) (memory : Memory) (span : Option Span) (meaning other : Meaning) → ((values : List Value) → meaning left values memory ≡ other left values memory) → (given : Option (List Value))
+  after_meaning : (left : ℕ) (rest : Code) (k : Continuation) (memory : Memory) (span : Option Span) (meaning other : Meaning) → ((values : List CValue) → meaning left values memory ≡ other left values memory) → (given : Option (List CValue))
       → defined given (λ values. after_call (meaning left values memory) (λ now done. defined (kept_by a (option_map (code_in t) span) memory done) (runs a rest k now)))
       ≡ defined given (λ values. after_call (other left values memory) (λ now done. defined (kept_by a (option_map (code_in t) span) memory done) (runs a rest k now)))
   after_meaning left rest k memory span meaning other h None = refl
@@ -193,7 +193,7 @@ module _ (t : FlatText) (a : Activation) (laid_all : IsLaid t a) (numbered : IsN
     instr = Zero l.span next;
     has = l.has;
     h = λ left memory. defined (zeroes memory (located (seen a memory) (code_in t l.span))) (runs a rest k left);
-    is = λ left memory. is left memory ∙ sym (ap (λ (o : Option Value). defined (zeroes memory (pointed_place o)) (runs a rest k left)) (value_at memory l.span v l.code));
+    is = λ left memory. is left memory ∙ sym (ap (λ (o : Option CValue). defined (zeroes memory (pointed_place o)) (runs a rest k left)) (value_at memory l.span v l.code));
     does = record { target = target next rest k s; later = after; comes = λ left memory. refl };
   }
 
@@ -211,7 +211,7 @@ module _ (t : FlatText) (a : Activation) (laid_all : IsLaid t a) (numbered : IsN
       h = λ left memory. defined (moved_by memory (given_by (seen a memory) (code_in t l.span))) (runs a rest k left);
       is = λ left memory. steps_so memory_move is left memory
           ∙ (after_memory a.running left rest k (move_given memory (arg_values (surroundings a.running memory) given))
-          ∙ sym (ap (λ (o : Option (List Value)). defined (moved_by memory o) (runs a rest k left)) (args_at memory l.span given l.code)
+          ∙ sym (ap (λ (o : Option (List CValue)). defined (moved_by memory o) (runs a rest k left)) (args_at memory l.span given l.code)
           ∙ ap (λ (o : Option Memory). defined o (runs a rest k left)) (moved_alike memory (arg_values (surroundings a.running memory) given))));
       does = record { target = target next rest k s; later = after; comes = λ left memory. refl };
     }
@@ -228,7 +228,7 @@ module _ (t : FlatText) (a : Activation) (laid_all : IsLaid t a) (numbered : IsN
       is = λ left memory. steps_so own is left memory
           ∙ (called_by left e l.place (a.running.callee name) (all_some (arg_values (surroundings a.running memory) given)) rest k memory l.target_is (λ values. numbered.fewer name left values memory)
           ∙ (after_meaning left rest k memory l.place (a.running.callee name) (a.meanings f) (λ values. numbered.callees name left values memory ∙ ap (λ (o : Option ℕ). meaning_by a.meanings o left values memory) q) (all_some (arg_values (surroundings a.running memory) given))
-          ∙ sym (ap (λ (o : Option (List Value)). defined o (λ values. after_call (a.meanings f left values memory) (λ now done. defined (kept_by a (option_map (code_in t) l.place) memory done) (runs a rest k now)))) (args_at memory l.span given l.code))));
+          ∙ sym (ap (λ (o : Option (List CValue)). defined o (λ values. after_call (a.meanings f left values memory) (λ now done. defined (kept_by a (option_map (code_in t) l.place) memory done) (runs a rest k now)))) (args_at memory l.span given l.code))));
       does = record { target = target next rest k s; later = after; name = name; callable = q; comes = λ left memory. refl };
     }
 
@@ -266,7 +266,7 @@ module _ (t : FlatText) (a : Activation) (laid_all : IsLaid t a) (numbered : IsN
     is = λ left memory. first left memory code k
         ∙ (ap (on_from a.running left) (is left memory)
         ∙ (after_test a.running left (value (surroundings a.running memory) test) (state met to_met memory) (state unmet to_unmet memory)
-        ∙ sym (ap (λ (o : Option Value). tested o (runs a met to_met left memory) (runs a unmet to_unmet left memory)) (value_at memory l.span test l.code))));
+        ∙ sym (ap (λ (o : Option CValue). tested o (runs a met to_met left memory) (runs a unmet to_unmet left memory)) (value_at memory l.span test l.code))));
     does = record { to_met = target m met to_met s; to_unmet = target u unmet to_unmet s'; later_met = after; later_unmet = after'; comes = λ left memory. refl };
   }
 
@@ -279,7 +279,7 @@ module _ (t : FlatText) (a : Activation) (laid_all : IsLaid t a) (numbered : IsN
     h = λ left memory. with_turn left (λ now. tested (evaluated (seen a memory) (code_in t l.span)) (runs a body (again test body k) now memory) (runs a finish k now memory));
     is = λ left memory. first left memory finish (again test body k)
         ∙ (after_back a.running left test body k memory
-        ∙ sym (ap (λ (o : Option Value). with_turn left (λ now. tested o (runs a body (again test body k) now memory) (runs a finish k now memory))) (value_at memory l.span test l.code)));
+        ∙ sym (ap (λ (o : Option CValue). with_turn left (λ now. tested o (runs a body (again test body k) now memory) (runs a finish k now memory))) (value_at memory l.span test l.code)));
     does = record { to_met = target (go i n body) body (again test body k) s; to_unmet = target after finish k s'; comes = λ left memory. refl };
   }
 
@@ -304,14 +304,14 @@ module _ (t : FlatText) (a : Activation) (laid_all : IsLaid t a) (numbered : IsN
   within_first w None q h k = k
   within_first w (Some p) q h k = h
 
-  after_switch : (left : ℕ) (o : Option Value) (body rest : Code) (k : Continuation) (memory : Memory)
+  after_switch : (left : ℕ) (o : Option CValue) (body rest : Code) (k : Continuation) (memory : Memory)
       → on_from a.running left (switches o body rest k memory) ≡ by_number o (λ n. on_from a.running left (enters (first_of (find (by_case n) body (behind finish rest k)) (find by_default body (behind finish rest k))) rest k memory))
   after_switch left None body rest k memory = refl
   after_switch left (Some (numeric n)) body rest k memory = refl
   after_switch left (Some (address p)) body rest k memory = refl
   after_switch left (Some null_pointer) body rest k memory = refl
 
-  same_by_number : (o : Option Value) (f g : Number → Outcome Returned) → ((n : Number) → f n ≡ g n) → by_number o f ≡ by_number o g
+  same_by_number : (o : Option CValue) (f g : Number → Outcome Returned) → ((n : Number) → f n ≡ g n) → by_number o f ≡ by_number o g
   same_by_number None f g h = refl
   same_by_number (Some (numeric n)) f g h = h n
   same_by_number (Some (address p)) f g h = refl
@@ -339,7 +339,7 @@ module _ (t : FlatText) (a : Activation) (laid_all : IsLaid t a) (numbered : IsN
       is = λ left memory. first left memory (select on body rest) k
           ∙ (after_switch left (value (surroundings a.running memory) on) body rest k memory
           ∙ (same_by_number (value (surroundings a.running memory) on) _ (λ n. runs_on ((enters_by n).to) left memory) (λ n. (enters_by n).same left memory)
-          ∙ sym (ap (λ (o : Option Value). by_number o (λ n. runs_on ((enters_by n).to) left memory)) (value_at memory l.of.span on l.of.code))));
+          ∙ sym (ap (λ (o : Option CValue). by_number o (λ n. runs_on ((enters_by n).to) left memory)) (value_at memory l.of.span on l.of.code))));
       does = record { target = λ n. (enters_by n).to; later = λ n. (enters_by n).after; comes = λ left memory. refl };
     }
 
@@ -354,7 +354,7 @@ module _ (t : FlatText) (a : Activation) (laid_all : IsLaid t a) (numbered : IsN
     is = λ left memory. first left memory (leave (Some v) rest) k
         ∙ (ap (λ (o : Option TypeTree). on_from a.running left (returns left memory (result_value o (value (surroundings a.running memory) v)))) q
         ∙ (after_return a.running left memory (option_and_then (as_type type) (value (surroundings a.running memory) v))
-        ∙ sym (ap (λ (o : Option Value). defined (option_and_then (as_cell (cell_type type)) o) (λ w. Got left (record { memory = memory; value = Some w }))) (value_at memory l.span v l.code))));
+        ∙ sym (ap (λ (o : Option CValue). defined (option_and_then (as_cell (cell_type type)) o) (λ w. Got left (record { memory = memory; value = Some w }))) (value_at memory l.span v l.code))));
     does = λ left memory. refl;
   }
 

@@ -9,7 +9,7 @@ use Rattle.turns.proofs.Raises.{fewer}
 use Rattle.c_text.specs.declared.kinds.Linkage.{Linkage}
 use Rattle.c_text.specs.declared.kinds.Linkage.TheVariants.{External, Static, StaticInline}
 use Rattle.c_text.proofs.Names.{bytes_eq-true}
-use Rattle.c_meaning.specs.declared.values.Value.{Value}
+use Rattle.c_meaning.specs.declared.values.CValue.{CValue}
 use Rattle.c_meaning.specs.CMemory.{Memory}
 use Rattle.c_meaning.specs.CTypes.{Function}
 use Rattle.c_meaning.specs.CStep.{stop, Returned, Running, state, weight, step}
@@ -47,14 +47,14 @@ equal n = grind (arith, nat_tests)
 
 module _ (p : Program) where
   -- Calls as statements.
-  meaning_below : (f : Function) (fs : List Function) (o : Option ℕ) (n : ℕ) (given : List Value) (memory : Memory) → IsBelow (length fs) o → meaning_by (meaning_at p (f ∷ fs)) o n given memory ≡ meaning_by (meaning_at p fs) o n given memory
+  meaning_below : (f : Function) (fs : List Function) (o : Option ℕ) (n : ℕ) (given : List CValue) (memory : Memory) → IsBelow (length fs) o → meaning_by (meaning_at p (f ∷ fs)) o n given memory ≡ meaning_by (meaning_at p fs) o n given memory
   meaning_below f fs None n given memory h = refl
   meaning_below f fs (Some k) n given memory h = ap (λ (b : Bool). (if b then function_meaning p f (expression_call p fs) (call_of p fs) else meaning_at p fs k) n given memory) (not_equal k (length fs) h)
 
-  meaning_here : (f : Function) (fs : List Function) (n : ℕ) (given : List Value) (memory : Memory) → function_meaning p f (expression_call p fs) (call_of p fs) n given memory ≡ meaning_at p (f ∷ fs) (length fs) n given memory
+  meaning_here : (f : Function) (fs : List Function) (n : ℕ) (given : List CValue) (memory : Memory) → function_meaning p f (expression_call p fs) (call_of p fs) n given memory ≡ meaning_at p (f ∷ fs) (length fs) n given memory
   meaning_here f fs n given memory = sym (ap (λ (b : Bool). (if b then function_meaning p f (expression_call p fs) (call_of p fs) else meaning_at p fs (length fs)) n given memory) (equal (length fs)))
 
-  pub call_numbered : (fs : List Function) (name : List ℕ) (n : ℕ) (given : List Value) (memory : Memory) → call_of p fs name n given memory ≡ meaning_by (meaning_at p fs) (function_number fs name) n given memory
+  pub call_numbered : (fs : List Function) (name : List ℕ) (n : ℕ) (given : List CValue) (memory : Memory) → call_of p fs name n given memory ≡ meaning_by (meaning_at p fs) (function_number fs name) n given memory
   call_numbered [] name n given memory = refl
   call_numbered (f ∷ fs) name n given memory = by_cases (bytes_eq f.name name) (call_numbered fs name n given memory)
     where
@@ -64,17 +64,17 @@ module _ (p : Program) where
       by_cases false h = h ∙ sym (meaning_below f fs (function_number fs name) n given memory (number_below fs name))
 
   -- Calls in expressions.
-  abbrev by_number_in : List Function → Memory → ℕ → List Value → Option Value
+  abbrev by_number_in : List Function → Memory → ℕ → List CValue → Option CValue
   by_number_in fs memory k given = expression_at p fs k memory given
 
-  expression_below : (f : Function) (fs : List Function) (o : Option ℕ) (given : List Value) (memory : Memory) → IsBelow (length fs) o → called_by (by_number_in (f ∷ fs) memory) o given ≡ called_by (by_number_in fs memory) o given
+  expression_below : (f : Function) (fs : List Function) (o : Option ℕ) (given : List CValue) (memory : Memory) → IsBelow (length fs) o → called_by (by_number_in (f ∷ fs) memory) o given ≡ called_by (by_number_in fs memory) o given
   expression_below f fs None given memory h = refl
   expression_below f fs (Some k) given memory h = ap (λ (b : Bool). (if b then expression_meaning p f (expression_call p fs) else expression_at p fs k) memory given) (not_equal k (length fs) h)
 
-  expression_here : (f : Function) (fs : List Function) (given : List Value) (memory : Memory) → expression_meaning p f (expression_call p fs) memory given ≡ expression_at p (f ∷ fs) (length fs) memory given
+  expression_here : (f : Function) (fs : List Function) (given : List CValue) (memory : Memory) → expression_meaning p f (expression_call p fs) memory given ≡ expression_at p (f ∷ fs) (length fs) memory given
   expression_here f fs given memory = sym (ap (λ (b : Bool). (if b then expression_meaning p f (expression_call p fs) else expression_at p fs (length fs)) memory given) (equal (length fs)))
 
-  expression_numbered : (fs : List Function) (name : List ℕ) (given : List Value) (memory : Memory) → expression_call p fs name memory given ≡ called_by (by_number_in fs memory) (function_number fs name) given
+  expression_numbered : (fs : List Function) (name : List ℕ) (given : List CValue) (memory : Memory) → expression_call p fs name memory given ≡ called_by (by_number_in fs memory) (function_number fs name) given
   expression_numbered [] name given memory = refl
   expression_numbered (f ∷ fs) name given memory = by_cases (bytes_eq f.name name) (expression_numbered fs name given memory)
     where
@@ -84,7 +84,7 @@ module _ (p : Program) where
       by_cases false h = h ∙ sym (expression_below f fs (function_number fs name) given memory (number_below fs name))
 
   -- There is none with a greater number.
-  expression_beyond : (fs : List Function) (k : ℕ) (given : List Value) (memory : Memory) → length fs ≤ k → expression_at p fs k memory given ≡ None
+  expression_beyond : (fs : List Function) (k : ℕ) (given : List CValue) (memory : Memory) → length fs ≤ k → expression_at p fs k memory given ≡ None
   expression_beyond [] k given memory h = refl
   expression_beyond (f ∷ fs) k given memory h =
       ap (λ (b : Bool). (if b then expression_meaning p f (expression_call p fs) else expression_at p fs k) memory given) (differs k (length fs) h)
@@ -94,7 +94,7 @@ module _ (p : Program) where
       differs j n l = grind (arith, nat_tests, l)
 
   -- Further functions with other names change nothing.
-  numbers_agree : (front fs : List Function) (name : List ℕ) (given : List Value) (memory : Memory) → AreOthers front fs
+  numbers_agree : (front fs : List Function) (name : List ℕ) (given : List CValue) (memory : Memory) → AreOthers front fs
       → called_by (by_number_in fs memory) (function_number fs name) given ≡ called_by (by_number_in fs memory) (function_number (front ++ fs) name) given
   numbers_agree [] fs name given memory h = refl
   numbers_agree (g ∷ gs) fs name given memory h = by_cases (bytes_eq g.name name) refl (numbers_agree gs fs name given memory h.1)
@@ -117,7 +117,7 @@ module _ (p : Program) where
   fewer_without objects n More h = tt
   fewer_without objects n Lost h = tt
 
-  fewer_started : (r : Running) (f : Function) (given : List Value) (memory : Memory) (n : ℕ) → LeavesFewer n (started r f given memory n)
+  fewer_started : (r : Running) (f : Function) (given : List CValue) (memory : Memory) (n : ℕ) → LeavesFewer n (started r f given memory n)
   fewer_started r f given memory n = fewer_without (length memory) n (body_run r f n (option_and_then (λ fields. initialized r (length f.params) f.locals (memory ++ fields ∷ [])) (frame_object f given))) (fewer_body r f n _)
 
   less : (n : ℕ) (o : Outcome Returned) → LeavesFewer n o → LeavesFewer (suc n) o
@@ -131,7 +131,7 @@ module _ (p : Program) where
   fewer_entered Static (suc n) on h = less n (on n) (h n)
   fewer_entered StaticInline n on h = h n
 
-  fewer_call : (fs : List Function) (name : List ℕ) (n : ℕ) (given : List Value) (memory : Memory) → LeavesFewer n (call_of p fs name n given memory)
+  fewer_call : (fs : List Function) (name : List ℕ) (n : ℕ) (given : List CValue) (memory : Memory) → LeavesFewer n (call_of p fs name n given memory)
   fewer_call [] name n given memory = tt
   fewer_call (f ∷ fs) name n given memory = by_cases (bytes_eq f.name name) (fewer_call fs name n given memory)
     where

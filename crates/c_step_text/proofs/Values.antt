@@ -4,8 +4,8 @@ use Rattle.std.specs.Prelude.{option_map, option_and_then, reverse, slice_get}
 use Rattle.std.proofs.lemmas.List.{append-nil, reverse-reverse}
 use Rattle.c_text.specs.CTree.{ExprTree, Args}
 use Rattle.c_meaning.specs.declared.values.Pointer.{Pointer}
-use Rattle.c_meaning.specs.declared.values.Value.{Value}
-use Rattle.c_meaning.specs.declared.values.Value.TheVariants.{Address as address}
+use Rattle.c_meaning.specs.declared.values.CValue.{CValue}
+use Rattle.c_meaning.specs.declared.values.CValue.TheVariants.{Address as address}
 use Rattle.c_meaning.specs.CMemory.{Memory}
 use Rattle.c_meaning.specs.CExprs.{Surroundings, pointed_place, value, place, arg_values, all_some}
 use Rattle.c_meaning.specs.CStep.{as_size, moves, move_given}
@@ -16,7 +16,7 @@ use Rattle.c_step_exprs.specs.Values.{around, AreCalled}
 use Rattle.c_step_exprs.proofs.ValueRuns.{value_runs, place_runs, args_run}
 use Rattle.c_step_text.specs.Acting.{evaluated, located, given_by, moved_by}
 
-top_value : (o : Option Value) → option_and_then (λ (stack : List Value). slice_get stack 0) (option_and_then (λ v. Some (v ∷ [])) o) ≡ o
+top_value : (o : Option CValue) → option_and_then (λ (stack : List CValue). slice_get stack 0) (option_and_then (λ v. Some (v ∷ [])) o) ≡ o
 top_value None = refl
 top_value (Some v) = refl
 
@@ -24,30 +24,30 @@ place_in : (o : Option Pointer) → pointed_place (option_map address o) ≡ o
 place_in None = refl
 place_in (Some p) = refl
 
-in_order : (o : Option (List Value)) → option_map reverse (option_and_then (λ vs. Some (reverse vs ++ [])) o) ≡ o
+in_order : (o : Option (List CValue)) → option_map reverse (option_and_then (λ vs. Some (reverse vs ++ [])) o) ≡ o
 in_order None = refl
 in_order (Some vs) = ap Some (ap reverse (append-nil (reverse vs)) ∙ reverse-reverse vs)
 
-module _ (s : Surroundings) (calls : ℕ → List Value → Option Value) (known : AreCalled s calls) where
+module _ (s : Surroundings) (calls : ℕ → List CValue → Option CValue) (known : AreCalled s calls) where
   without_rest : (code : List Instr) → exec (around s calls) 0 code [] ≡ exec (around s calls) 0 (code ++ []) []
   without_rest code = ap (λ (is : List Instr). exec (around s calls) 0 is []) (sym (append-nil code))
 
   pub value_evaluated : (e : ExprTree) → evaluated (around s calls) (value_code s.scope e) ≡ value s e
   value_evaluated e =
-      ap (λ (o : Option (List Value)). option_and_then (λ (stack : List Value). slice_get stack 0) o) (without_rest (value_code s.scope e) ∙ (value_runs s calls known e).by [] []) ∙ top_value (value s e)
+      ap (λ (o : Option (List CValue)). option_and_then (λ (stack : List CValue). slice_get stack 0) o) (without_rest (value_code s.scope e) ∙ (value_runs s calls known e).by [] []) ∙ top_value (value s e)
 
   pub place_located : (e : ExprTree) → located (around s calls) (place_code s.scope e) ≡ place s e
   place_located e =
-      ap (λ (o : Option (List Value)). pointed_place (option_and_then (λ (stack : List Value). slice_get stack 0) o)) (without_rest (place_code s.scope e) ∙ (place_runs s calls known e).by [] [])
+      ap (λ (o : Option (List CValue)). pointed_place (option_and_then (λ (stack : List CValue). slice_get stack 0) o)) (without_rest (place_code s.scope e) ∙ (place_runs s calls known e).by [] [])
       ∙ (ap pointed_place (top_value (option_map address (place s e))) ∙ place_in (place s e))
 
   pub args_given : (given : Args) → given_by (around s calls) (args_code s.scope given) ≡ all_some (arg_values s given)
   args_given given =
-      ap (λ (o : Option (List Value)). option_map reverse o) (without_rest (args_code s.scope given) ∙ (args_run s calls known given).by [] []) ∙ in_order (all_some (arg_values s given))
+      ap (λ (o : Option (List CValue)). option_map reverse o) (without_rest (args_code s.scope given) ∙ (args_run s calls known given).by [] []) ∙ in_order (all_some (arg_values s given))
 
 -- `memmove` of values that are all there.
 module _ (memory : Memory) where
-  abbrev moving : Option (List Value) → Option Memory
+  abbrev moving : Option (List CValue) → Option Memory
   moving given = moved_by memory given
 
   no_second : (to : Option Pointer) (n : Option ℕ) → None ≡ moves memory to None n
@@ -59,11 +59,11 @@ module _ (memory : Memory) where
   no_third (Some p) None = refl
   no_third (Some p) (Some q) = refl
 
-  too_many : (a b c d : Value) (o : Option (List Value)) → moving (option_map (λ vs. a ∷ vs) (option_map (λ vs. b ∷ vs) (option_map (λ vs. c ∷ vs) (option_map (λ vs. d ∷ vs) o)))) ≡ None
+  too_many : (a b c d : CValue) (o : Option (List CValue)) → moving (option_map (λ vs. a ∷ vs) (option_map (λ vs. b ∷ vs) (option_map (λ vs. c ∷ vs) (option_map (λ vs. d ∷ vs) o)))) ≡ None
   too_many a b c d None = refl
   too_many a b c d (Some vs) = refl
 
-  pub moved_alike : (given : List (Option Value)) → moving (all_some given) ≡ move_given memory given
+  pub moved_alike : (given : List (Option CValue)) → moving (all_some given) ≡ move_given memory given
   moved_alike [] = refl
   moved_alike (None ∷ []) = refl
   moved_alike (Some a ∷ []) = refl

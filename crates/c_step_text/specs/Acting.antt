@@ -6,8 +6,8 @@ use Rattle.turns.specs.Steps.{LeavesFewer}
 use Rattle.c_text.specs.CTree.{Code}
 use Rattle.c_meaning.specs.declared.values.Number.{Number}
 use Rattle.c_meaning.specs.declared.values.Pointer.{Pointer}
-use Rattle.c_meaning.specs.declared.values.Value.{Value}
-use Rattle.c_meaning.specs.declared.values.Value.TheVariants.{Numeric as numeric, Address as address, NullPointer as null_pointer}
+use Rattle.c_meaning.specs.declared.values.CValue.{CValue}
+use Rattle.c_meaning.specs.declared.values.CValue.TheVariants.{Numeric as numeric, Address as address, NullPointer as null_pointer}
 use Rattle.c_meaning.specs.declared.cells.CellType.{CellType}
 use Rattle.c_meaning.specs.CValues.{holds}
 use Rattle.c_meaning.specs.CMemory.{Memory, stored}
@@ -27,7 +27,7 @@ pub record Activation : Type 0 where
   pub running : Running
   pub callable : List Function
   pub start : ℕ
-  pub calls : Memory → ℕ → List Value → Option Value
+  pub calls : Memory → ℕ → List CValue → Option CValue
   pub meanings : ℕ → Meaning
 
 -- The names of its text, whose labels have the numbers that they are found at, and the number of its end.
@@ -45,8 +45,8 @@ meaning_by meanings (Some k) = meanings k
 -- The numbers name what the names of the meaning name, and a call never leaves more turns than it was given.
 pub record IsNumbered (a : Activation) : Type 0 where
   pub values : (memory : Memory) → AreCalled (surroundings a.running memory) (a.calls memory)
-  pub callees : (name : List ℕ) (n : ℕ) (given : List Value) (memory : Memory) → a.running.callee name n given memory ≡ meaning_by a.meanings (function_number a.callable name) n given memory
-  pub fewer : (name : List ℕ) (n : ℕ) (given : List Value) (memory : Memory) → LeavesFewer n (a.running.callee name n given memory)
+  pub callees : (name : List ℕ) (n : ℕ) (given : List CValue) (memory : Memory) → a.running.callee name n given memory ≡ meaning_by a.meanings (function_number a.callable name) n given memory
+  pub fewer : (name : List ℕ) (n : ℕ) (given : List CValue) (memory : Memory) → LeavesFewer n (a.running.callee name n given memory)
 
 -- The function's text stands in the text of all.
 pub record IsLaid (t : FlatText) (a : Activation) : Type 0 where
@@ -76,13 +76,13 @@ runs_on {t} {a} {number} target left memory = runs a target.code target.continua
 abbrev pub seen : Activation → Memory → Around
 seen a memory = placed a.running.frame memory (a.calls memory)
 
-abbrev pub evaluated : Around → List Instr → Option Value
+abbrev pub evaluated : Around → List Instr → Option CValue
 evaluated around code = option_and_then (λ stack. slice_get stack 0) (exec around 0 code [])
 
 abbrev pub located : Around → List Instr → Option Pointer
 located around code = pointed_place (evaluated around code)
 
-abbrev pub given_by : Around → List Instr → Option (List Value)
+abbrev pub given_by : Around → List Instr → Option (List CValue)
 given_by around code = option_map reverse (exec around 0 code [])
 
 -- By what is there, or undefined.
@@ -91,12 +91,12 @@ defined None on = Lost
 defined (Some x) on = on x
 
 -- By a condition.
-abbrev pub tested : Option Value → (met unmet : Outcome Returned) → Outcome Returned
+abbrev pub tested : Option CValue → (met unmet : Outcome Returned) → Outcome Returned
 tested None met unmet = Lost
 tested (Some v) met unmet = if holds v then met else unmet
 
 -- By a number.
-abbrev pub by_number : Option Value → (Number → Outcome Returned) → Outcome Returned
+abbrev pub by_number : Option CValue → (Number → Outcome Returned) → Outcome Returned
 by_number None on = Lost
 by_number (Some (numeric n)) on = on n
 by_number (Some (address p)) on = Lost
@@ -119,7 +119,7 @@ after_call More on = More
 after_call Lost on = Lost
 
 -- `memmove` and `memset`.
-abbrev pub moved_by : Memory → Option (List Value) → Option Memory
+abbrev pub moved_by : Memory → Option (List CValue) → Option Memory
 moved_by memory given = option_and_then (λ values. move_given memory (map Some values)) given
 
 -- The memory after a call that found `before`: its value is assigned to its target, which is one place before the call

@@ -6,7 +6,7 @@ use Rattle.wf_num.specs.declared.c_arithmetic.CTy.TheVariants.{Int}
 use Rattle.c_text.specs.declared.kinds.CNumber.TheVariants as literal
 use Rattle.c_text.specs.declared.kinds.Otherwise.{Otherwise}
 use Rattle.c_text.specs.CTree.{TypeTree, ExprTree, number, Code, finish, empty, jump, branch, repeat, select, leave, case_label, default_label, name_label}
-use Rattle.c_meaning.specs.CTypes.{Function, Scope}
+use Rattle.c_meaning.specs.CTypes.{Function, CScope}
 use Rattle.c_meaning.specs.CStep.{by_name}
 use Rattle.c_step_exprs.specs.declared.instrs.Instr.TheVariants as does
 use Rattle.c_step_exprs.specs.declared.instrs.Put.TheVariants as put
@@ -49,5 +49,5 @@ text_by_hand = record {
   arms = record { number = record { ty = Int; bits = 1 }; target = 2 } ∷ [];
 }
 
-abbrev pub names_by_hand : Scope → List Function → Option TypeTree → Otherwise → Names
+abbrev pub names_by_hand : CScope → List Function → Option TypeTree → Otherwise → Names
 names_by_hand scope callable result_type otherwise = record { scope = scope; callable = callable; result_type = result_type; labels = λ name. seek (by_name name) 0 (body_by_hand otherwise) }

@@ -2,7 +2,7 @@
 use Rattle.std.specs.Prelude.{◌≡◌, ℕ, if◌then◌else◌, nat_eq, List, [], ◌∷◌, slice_get, slice_range, Option, Some, None}
 use Rattle.c_meaning.specs.declared.values.Number.{Number}
 use Rattle.c_meaning.specs.CValues.{converted}
-use Rattle.c_meaning.specs.CTypes.{Scope}
+use Rattle.c_meaning.specs.CTypes.{CScope}
 use Rattle.c_text.specs.CTree.{ExprTree}
 use Rattle.c_step_exprs.specs.declared.instrs.Instr.{Instr}
 use Rattle.c_step_exprs.specs.Resolving.{value_code}
@@ -36,7 +36,7 @@ arm_of n [] = None
 arm_of n (a ∷ others) = if nat_eq n.bits (converted n.ty a.number).bits then Some a.target else arm_of n others
 
 -- An instruction of the value of an expression stands there.
-pub record HasOf (t : FlatText) (scope : Scope) (n : ℕ) (e : ExprTree) (instr : Span → StmtInstr) : Type 0 where
+pub record HasOf (t : FlatText) (scope : CScope) (n : ℕ) (e : ExprTree) (instr : Span → StmtInstr) : Type 0 where
   pub span : Span
   pub code : code_in t span ≡ value_code scope e
   pub has : Has t n (instr span)

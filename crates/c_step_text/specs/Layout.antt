@@ -4,7 +4,7 @@
 use Rattle.std.specs.Prelude.{◌≡◌, ℕ, ◌+◌, Bool, true, false, if◌then◌else◌, List, Option, Some, None}
 use Rattle.c_text.specs.CTree.{TypeTree, ExprTree, Args, no_arg, expr_arg, sizeof_arg, Code, finish, nested, empty, assign, call, jump, branch, repeat, select, leave, case_label, default_label, name_label}
 use Rattle.c_meaning.specs.declared.values.Number.{Number}
-use Rattle.c_meaning.specs.CTypes.{Function, Scope}
+use Rattle.c_meaning.specs.CTypes.{Function, CScope}
 use Rattle.c_meaning.specs.CExprs.{cell_type}
 use Rattle.c_meaning.specs.CStep.{Continuation, stop, behind, again, code_weight, continuation_weight, Label, by_case, by_default, enters_switch, is_case, is_default, is_named, Callee, memory_move, memory_set, own, callee_of}
 use Rattle.c_step_exprs.specs.Resolving.{function_number, place_code, args_code}
@@ -13,7 +13,7 @@ use Rattle.c_step_text.specs.Flat.{Span, Assign, Call, Move, Zero, Goto, Test, B
 -- What a function's text depends on beside its body: the names of its expressions, the functions that it can call, the
 -- type of its result, and the numbers of its labels.
 pub record Names : Type 0 where
-  pub scope : Scope
+  pub scope : CScope
   pub callable : List Function
   pub result_type : Option TypeTree
   pub labels : List ℕ → Option ℕ

@@ -3,7 +3,7 @@
 ghost use Rattle.std.specs.Prelude.{◌≡◌, ℕ, ◌+◌, nat_lt, List, ◌++◌, length, Option};
 ghost use Rattle.c_text.specs.declared.kinds.Otherwise.{Otherwise};
 ghost use Rattle.c_text.specs.CTree.{TypeTree, Code};
-ghost use Rattle.c_meaning.specs.CTypes.{Function, Scope};
+ghost use Rattle.c_meaning.specs.CTypes.{Function, CScope};
 ghost use Rattle.c_meaning.specs.CStep.{Continuation, stop, Place, code_weight, continuation_weight, place_weight, Label, find};
 ghost use Rattle.c_step_text.specs.ByHand.{body_by_hand, text_by_hand, names_by_hand};
 ghost use Rattle.c_step_text.specs.Emitted.{StandAt, statements_of, exprs_of, arms_of, function_statements};
@@ -35,7 +35,7 @@ pub fn an_instruction_does_what_its_statement_does()
 /// A text that was written down by hand is laid out as the body of a function asks: with a `switch`, a `while`, an `if` and a
 /// `goto` that goes back.
 pub fn a_text_by_hand_is_laid_out()
-    ensures { (scope : Scope) (callable : List Function) (result_type : Option TypeTree) (otherwise : Otherwise)
+    ensures { (scope : CScope) (callable : List Function) (result_type : Option TypeTree) (otherwise : Otherwise)
         → Laid text_by_hand (names_by_hand scope callable result_type otherwise) 0 14 (body_by_hand otherwise) × Has text_by_hand 14 Finish }
 {}
 

@@ -104,7 +104,6 @@ pub enum StmtInstr {
 }
 
 /// The text of all functions.
-#[derive(Drop)]
 pub struct Text {
     /// The instructions of the statements.
     pub statements: Vec<StmtInstr>,
@@ -112,6 +111,16 @@ pub struct Text {
     pub exprs: Vec<Instr>,
     /// The cases.
     pub arms: Vec<Arm>,
+}
+
+impl Drop for Text {
+    fn drop(self) {
+        let Text {
+            statements: _,
+            exprs: _,
+            arms: _,
+        } = self;
+    }
 }
 
 impl Model for Text {

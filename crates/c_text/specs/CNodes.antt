@@ -58,7 +58,7 @@ args_in names look [] = no_arg
 args_in names look (arg.Expr e ∷ args) = expr_arg (look e.0) (args_in names look args)
 args_in names look (arg.SizeOf n ∷ args) = sizeof_arg (bytes_at names n.0) (args_in names look args)
 
--- the tree of a node, where `look` gives those of its parts
+-- what a node stands for, given by `look` what its parts do
 abbrev pub made_expr : List (List ℕ) → (ℕ → ExprTree) → CExpr → ExprTree
 made_expr names look (expr.Number n) = number n
 made_expr names look (expr.Name n) = variable (bytes_at names n.0)

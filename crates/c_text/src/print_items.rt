@@ -2,10 +2,9 @@
 
 ghost use Rattle.std.specs.Prelude.{◌≡◌, ◌<◌, ◌++◌, length, map, false, codes, IfSome, slice_get};
 ghost use Rattle.std.specs.Option.{option_map};
-ghost use Rattle.c_text.specs.CNodes.{bytes_at, type_in, expr_of, code_of, value_in, field_kind, field_tree, param_tree, local_tree, made_item, unit_tree};
+ghost use Rattle.c_text.specs.CNodes.{bytes_at, type_in, expr_of, code_of, value_in, field_kind, field_tree, param_tree, local_tree, unit_tree};
 ghost use Rattle.c_text.specs.CFits.{HasName, HasType, HasFieldType, HasField, HasFields, HasParam, HasParams, HasLocal, HasLocals};
-ghost use Rattle.c_text.specs.CLayout.{type_text, field_kind_text, count_text, field_text, fields_text, param_text, more_params_text, params_text, initial_text, local_text, locals_text, linkage_bytes, result_text, item_text, items_text, code_text, text_of};
-ghost use Rattle.c_text.specs.CSpelling.{includes};
+ghost use Rattle.c_text.specs.CLayout.{field_kind_text, count_text, field_text, fields_text, param_text, more_params_text, params_text, initial_text, local_text, locals_text, linkage_bytes, result_text, item_text, code_text, text_of};
 
 use crate::ids::{CExprId, CItemId, CNameId, CStmtId};
 use crate::kinds::{CNumber, Linkage};

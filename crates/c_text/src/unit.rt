@@ -21,7 +21,7 @@ use std::alloc::Global;
 use std::marker::Model;
 use wf_text::{NoMemory, add_last};
 
-/// A C text as a tree. Its items stand in the text in the order in which they were added.
+/// A C text as a tree. The text has its items as they came, one after the other.
 pub struct Unit {
     names: Interner,
     strings: Vec<CList<u8>>,
@@ -261,15 +261,11 @@ impl Unit {
         ensures { IfSome result (λ id. slice_get self.now.exprs id.0 ≡ Some e.now) }
     {
         let guess = self.recent_exprs.guess(place);
-        match self.exprs.get(guess) {
-            Some(known) => {
-                if sharing::is_same(known, e) {
-                    Some(CExprId(guess))
-                } else {
-                    None
-                }
-            }
-            None => None,
+        let known = self.exprs.get(guess)?;
+        if sharing::is_same(known, e) {
+            Some(CExprId(guess))
+        } else {
+            None
         }
     }
 

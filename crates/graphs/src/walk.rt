@@ -1,10 +1,10 @@
 // A walk over a graph that goes into depth: a number is left, and put into the order, when the walk has begun with all
 // that it goes to. What leads to the number where the walk is stands on a path, so that nothing calls itself.
 
-ghost use Rattle.std.specs.Prelude.{◌≡◌, ◌+◌, ◌-◌, ◌<◌, ◌≤◌, ◌^◌, ◌++◌, ◌||◌, [], ◌∷◌, true, false, if◌then◌else◌, Some, length, take, slice_get, slice_index_or, nat_eq, vec_len, IfOk, IfSome, IfNone, OnOk};
-ghost use Rattle.graphs.specs.Graphs.{Path, holds, goes, row_at, AreWithin};
+ghost use Rattle.std.specs.Prelude.{◌≡◌, ◌+◌, ◌-◌, ◌<◌, ◌≤◌, ◌^◌, ◌||◌, [], true, false, if◌then◌else◌, Some, length, take, slice_get, slice_index_or, nat_eq, vec_len, IfOk, IfSome, IfNone, OnOk};
+ghost use Rattle.graphs.specs.Graphs.{holds, goes, row_at, AreWithin};
 ghost use Rattle.graphs.specs.Leaving.{IsLeaving};
-ghost use Rattle.graphs.specs.Walking.{AreFlagsOf, ArePassed, IsWalk, IsNext, IsDone, Walks, has_begun, Remembers, Advances};
+ghost use Rattle.graphs.specs.Walking.{IsNext, IsDone, Walks, has_begun, Remembers, Advances};
 
 use crate::rows::Row;
 use std::alloc::Global;

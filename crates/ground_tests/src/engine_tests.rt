@@ -1,6 +1,6 @@
 // An engine that runs nothing, called and driven through a list of actions.
 
-ghost use Rattle.std.specs.Prelude.{◌≡◌, IfOk, length, List, [], ◌∷◌};
+ghost use Rattle.std.specs.Prelude.{◌≡◌, IfOk, length, [], ◌∷◌};
 ghost use Rattle.wf_bufs.specs.SurfaceViews.{answer_kind_of};
 
 use std::alloc::Global;

@@ -1,7 +1,7 @@
 // Scripts driven over an engine that runs nothing, each with its report by hand.
 
-ghost use Rattle.std.specs.Prelude.{◌≡◌, IfOk, List, [], ◌∷◌, codes};
-ghost use Rattle.wf_text.specs.Surface.{PublicArg, PublicMethod, PublicStruct, reader, status, numeric};
+ghost use Rattle.std.specs.Prelude.{◌≡◌, IfOk, [], ◌∷◌, codes};
+ghost use Rattle.wf_text.specs.Surface.{reader, status, numeric};
 ghost use Rattle.wf_bufs.specs.SurfaceViews.{answer_kind_of};
 ghost use Rattle.wf_script_drive.specs.Lawful.{HasOwnNumbers};
 

@@ -1,4 +1,4 @@
-// Numbers, bytes, statuses and rules as texts, and which of two refusals decides: each public function once, with what
+// Numbers, bytes, statuses and rules as texts, and which of two refusals is first: each public function once, with what
 // a reader would write down by hand.
 
 use wf_text::status_text::category;

@@ -169,16 +169,11 @@ impl Interner {
         ensures number { IfSome result (λ n. n < length self.now) }
         ensures none { IfNone result ((i : ℕ) → slice_get self.now i ≢ Some text.now) }
     {
-        let first = self.firsts.get(&made).copied();
-        match first {
-            Some(number) => {
-                if self.text(number) == text {
-                    Some(number)
-                } else {
-                    self.others.get(text).copied()
-                }
-            }
-            None => None,
+        let number = self.firsts.get(&made).copied()?;
+        if self.text(number) == text {
+            Some(number)
+        } else {
+            self.others.get(text).copied()
         }
     }
 

@@ -1,6 +1,6 @@
 -- What each step keeps, a run keeps.
-use Rattle.std.proofs.Common.{◌≡◌, ℕ, zero, suc}
-use Rattle.turns.specs.Run.{Next, Go, Turn, End, Out, Fail, Outcome, Got, More, Lost, on_next, steps, runs, run}
+use Rattle.std.proofs.Common.{ℕ, zero, suc}
+use Rattle.turns.specs.Run.{Next, Go, Turn, End, Out, Fail, Outcome, on_next, steps, runs, run}
 use Rattle.turns.specs.Steps.{NextKeeps, AnswersWith}
 
 module _ {S A : Type 0} (step : ℕ → S → Next S A) (weight : S → ℕ) (I : S → Type 0) (Q : A → Type 0) (keeps : (n : ℕ) (s : S) → I s → NextKeeps I Q (step n s)) where

@@ -1,7 +1,7 @@
 // The laws of runs. Each is the contract of a function that does nothing.
 
 ghost use Rattle.std.specs.Prelude.{◌≡◌, ℕ, ◌+◌, ◌≤◌, Bool, true};
-ghost use Rattle.turns.specs.Run.{Next, Outcome, Got, More, Lost, on_next, run};
+ghost use Rattle.turns.specs.Run.{Next, Got, More, Lost, on_next, run};
 ghost use Rattle.turns.specs.Steps.{Falls, Counts, NextKeeps, AnswersWith};
 
 /// A run is its first step, followed by the run from the state that the step leads to, with the turns that it

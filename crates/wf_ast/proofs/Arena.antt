@@ -1,4 +1,4 @@
--- The tree of a node is made of the trees of its parts.
+-- A node's tree is made of those of its parts.
 use Rattle.std.proofs.Common.{◌≡◌, ℕ, zero, suc, ◌+◌, ◌<◌, Bool, true, false, ◌&&◌, List, [], ◌∷◌, ◌++◌, length, map, Option, Some, None, nat_lt, refl, sym, ap, ◌∙◌, subst, arith, length-append}
 use Rattle.std.specs.Prelude.{slice_get, unwrap_or}
 use Rattle.std.specs.List.{list_all}
@@ -11,7 +11,7 @@ use Rattle.wf_ast.specs.declared.typed_code.Expr.TheVariants as exprs
 use Rattle.wf_ast.specs.declared.typed_code.ExprNode.{ExprNode}
 use Rattle.wf_ast.specs.declared.typed_nodes.TypedNodes.{TypedNodes}
 use Rattle.wf_ast.specs.TypedTree.{ValueTree, lost}
-use Rattle.wf_ast.specs.TypedTrees.{made, made_or_number, tree_in, tree_of, expr_trees, exprs_after, type_of_node, constant_of_node, chain_of, sort_of}
+use Rattle.wf_ast.specs.TypedTrees.{made, made_or_number, tree_in, tree_of, expr_trees, exprs_after, type_of_node, constant_of_node, chain_of, operator_kind}
 use Rattle.wf_ast.specs.TypedInvariant.{parts_of, parts_below, each_numbered}
 
 -- Both tests of a conjunction.
@@ -82,7 +82,7 @@ module _ (f g : ExprId → ValueTree) (at : Place) (signs : List Place) (ty : Ty
   made_same (exprs.Cut base None (Some to)) h = rw (h.0, h.1.0) refl
   made_same (exprs.Cut base (Some from) None) h = rw (h.0, h.1.0) refl
   made_same (exprs.Cut base (Some from) (Some to)) h = rw (h.0, h.1.0, h.1.1.0) refl
-  made_same (exprs.Chain op parts) h = ap (chain_of at signs ty (sort_of op)) (same_map f g parts h)
+  made_same (exprs.Chain op parts) h = ap (chain_of at signs ty (operator_kind op)) (same_map f g parts h)
   made_same (exprs.Convert of to) h = rw h.0 refl
   made_same (exprs.Not of) h = rw h.0 refl
   made_same (exprs.Base on sig) h = rw h.0 refl

@@ -8,7 +8,7 @@ use Rattle.wf_ast.specs.declared.types.Ty.{Ty}
 use Rattle.wf_ast.specs.declared.types.Ty.TheVariants as types
 use Rattle.wf_ast.specs.declared.typed_nodes.TypedNodes.{TypedNodes}
 use Rattle.wf_ast.specs.TypedTree.{Arith, Order, less, at_most, equal, differs, at_least, greater, StatusTree, compare, ValueTree, numeric, logical, state, elements, io, lost}
-use Rattle.wf_ast.specs.TypedTrees.{Sort, arithmetic, ordering, joining, num_in, comparison, type_of_node}
+use Rattle.wf_ast.specs.TypedTrees.{OperatorKind, arithmetic, ordering, joining, num_in, comparison, type_of_node}
 use Rattle.wf_ast.specs.TypedInvariant.{is_expr, is_numeric, is_logical, is_state, is_list, all_numeric, chain_fits, compares_kinds, is_tree_of}
 use Rattle.wf_ast.proofs.Arena.{both_true}
 use Rattle.wf_ast.proofs.TypeKinds.{list_no_condition, list_no_number, state_no_condition, state_no_number}
@@ -48,12 +48,12 @@ comparison_gives_condition nodes op (e ∷ []) ty f = absurd (cc f)
 comparison_gives_condition nodes op (e ∷ g ∷ []) ty f = (both_true (is_logical ty) (compares_kinds (ordering op) (type_of_node nodes e.0) (type_of_node nodes g.0)) f).0
 comparison_gives_condition nodes op (e ∷ g ∷ i ∷ es) ty f = absurd (cc f)
 
-pub no_slice_chain : (nodes : TypedNodes) (ty : Ty) (sort : Sort) (es : List ExprId) → is_list ty ≡ true → chain_fits nodes sort es ty ≡ true → ⊥
+pub no_slice_chain : (nodes : TypedNodes) (ty : Ty) (sort : OperatorKind) (es : List ExprId) → is_list ty ≡ true → chain_fits nodes sort es ty ≡ true → ⊥
 no_slice_chain nodes ty (arithmetic op) es h f = list_no_number ty h (gives_number nodes op es ty f)
 no_slice_chain nodes ty (joining both) es h f = list_no_condition ty h (junction_gives_condition nodes both es ty f)
 no_slice_chain nodes ty (ordering op) es h f = list_no_condition ty h (comparison_gives_condition nodes op es ty f)
 
-pub no_status_chain : (nodes : TypedNodes) (ty : Ty) (sort : Sort) (es : List ExprId) → is_state ty ≡ true → chain_fits nodes sort es ty ≡ true → ⊥
+pub no_status_chain : (nodes : TypedNodes) (ty : Ty) (sort : OperatorKind) (es : List ExprId) → is_state ty ≡ true → chain_fits nodes sort es ty ≡ true → ⊥
 no_status_chain nodes ty (arithmetic op) es h f = state_no_number ty h (gives_number nodes op es ty f)
 no_status_chain nodes ty (joining both) es h f = state_no_condition ty h (junction_gives_condition nodes both es ty f)
 no_status_chain nodes ty (ordering op) es h f = state_no_condition ty h (comparison_gives_condition nodes op es ty f)

@@ -16,7 +16,7 @@ use Rattle.wf_ast.specs.declared.typed_code.Expr.{Expr}
 use Rattle.wf_ast.specs.declared.typed_code.Expr.TheVariants as exprs
 use Rattle.wf_ast.specs.declared.typed_nodes.TypedNodes.{TypedNodes}
 use Rattle.wf_ast.specs.TypedTree.{local, field, arg, Arith, Order, equal, differs, NumTree, link, CondTree, junction, ValueTree, numeric, logical, state, elements, io}
-use Rattle.wf_ast.specs.TypedTrees.{Sort, arithmetic, ordering, joining, sort_of, tree_of, type_of_node, constant_of_node, place_of_node, signs_of_node, made, named, num_type, num_chain, cond_chain, chain_of, comparison, first_sign, answer_of, num_in, cond_in, status_in, slice_in, io_in, end_in}
+use Rattle.wf_ast.specs.TypedTrees.{OperatorKind, arithmetic, ordering, joining, operator_kind, tree_of, type_of_node, constant_of_node, place_of_node, signs_of_node, made, named, num_type, num_chain, cond_chain, chain_of, comparison, first_sign, answer_of, num_in, cond_in, status_in, slice_in, io_in, end_in}
 use Rattle.wf_ast.specs.TypedInvariant.{parts_of, is_numeric, is_logical, is_list, is_tree_of, parts_fit, kind_fits, chain_fits, all_numeric, cut_parts, optional_numeric, has_kind}
 use Rattle.wf_ast.specs.WellTyped.{same_mark}
 use Rattle.wf_ast.specs.Mentions.{path_is, slice_is, is_element, num_mentions, slice_mentions, end_mentions, status_mentions, cond_mentions, mentions}
@@ -141,7 +141,7 @@ module _ (nodes : TypedNodes) (look : ExprId → ValueTree) (at : Place) (signs 
   comparison_mentions sign op (state a) (state b) h = absurd (cc (h))
   comparison_mentions sign op t u h = absurd (cc (h))
 
-  chain_mentions : (sort : Sort) (es : List ExprId) (ty : Ty) → chain_fits nodes sort es ty ≡ true
+  chain_mentions : (sort : OperatorKind) (es : List ExprId) (ty : Ty) → chain_fits nodes sort es ty ≡ true
       → list_all (λ part. is_tree_of (type_of_node nodes part.0) (look part)) es ≡ true
       → mentions (chain_of at signs ty sort (map look es)) x ≡ any_mentions look x es
   chain_mentions (arithmetic op) (e ∷ e2 ∷ es) ty h f =
@@ -222,7 +222,7 @@ module _ (nodes : TypedNodes) (look : ExprId → ValueTree) (at : Place) (signs 
       let l = both_true (is_list (type_of_node nodes base.0)) _ (both_true (is_list ty) _ h).1 in
       let p = both_true (optional_numeric nodes from) _ l.1 in
       cut_mentions base from to l.0 p.0 p.1 f
-  made_mentions ty (exprs.Chain op parts) h f = chain_mentions (sort_of op) parts ty h f
+  made_mentions ty (exprs.Chain op parts) h f = chain_mentions (operator_kind op) parts ty h f
   made_mentions ty (exprs.Convert of to) h f =
       let l = both_true (is_numeric ty) _ h in
       let a = both_true (is_tree_of (type_of_node nodes of.0) (look of)) _ f in

@@ -7,7 +7,7 @@ use Rattle.wf_ast.specs.declared.operators.Op.TheVariants as ops
 use Rattle.wf_ast.specs.declared.types.Ty.{Ty}
 use Rattle.wf_ast.specs.declared.types.Ty.TheVariants as types
 use Rattle.wf_ast.specs.TypedTree.{Path, arg, Arith, NumTree, number, read, element, link, convert, length_of, asked, slice, array, cut, status, held, no_status, CondTree, truth, flag, compare, same_status, junction, negation, closed, has_category, ValueTree, numeric, logical, state, elements, io, lost}
-use Rattle.wf_ast.specs.TypedTrees.{Sort, arithmetic, ordering, joining, sort_of, named, num_type, num_chain, cond_chain, num_in, cond_in, status_in, slice_in, io_in}
+use Rattle.wf_ast.specs.TypedTrees.{OperatorKind, arithmetic, ordering, joining, operator_kind, named, num_type, num_chain, cond_chain, num_in, cond_in, status_in, slice_in, io_in}
 use Rattle.wf_ast.specs.TypedInvariant.{is_numeric, is_logical, is_state, is_list, is_io, is_tree_of}
 use Rattle.wf_ast.specs.Value.{same_truth}
 use Rattle.wf_ast.specs.Same.{same, same_num, same_slice, same_state, same_cond, same_path, same_arith, same_order, same_width}
@@ -251,13 +251,13 @@ variable_form at types.Writer (arg n) h = refl
 variable_form at ty p h = absurd (cc (h))
 
 -- Operators by their sorts.
-abbrev pub same_sort : (s s' : Sort) → (bits bits' : ℕ) → Bool
+abbrev pub same_sort : (s s' : OperatorKind) → (bits bits' : ℕ) → Bool
 same_sort (arithmetic f) (arithmetic g) bits bits' = same_arith f g && same_width f bits bits'
 same_sort (ordering f) (ordering g) bits bits' = same_order f g
 same_sort (joining b) (joining c) bits bits' = same_truth b c
 same_sort s s' bits bits' = false
 
-pub sorts_same : (op op' : Op) (ty ty' : Ty) → same_operator op op' ty ty' ≡ same_sort (sort_of op) (sort_of op') (num_type ty).bits (num_type ty').bits
+pub sorts_same : (op op' : Op) (ty ty' : Ty) → same_operator op op' ty ty' ≡ same_sort (operator_kind op) (operator_kind op') (num_type ty).bits (num_type ty').bits
 sorts_same ops.Add ops.Add ty ty' = refl
 sorts_same ops.Mul ops.Add ty ty' = refl
 sorts_same ops.BitAnd ops.Add ty ty' = refl

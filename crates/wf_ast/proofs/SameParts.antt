@@ -16,7 +16,7 @@ use Rattle.wf_ast.specs.declared.typed_code.Expr.{Expr}
 use Rattle.wf_ast.specs.declared.typed_code.Expr.TheVariants as exprs
 use Rattle.wf_ast.specs.declared.typed_nodes.TypedNodes.{TypedNodes}
 use Rattle.wf_ast.specs.TypedTree.{Path, local, field, arg, Arith, Order, equal, differs, NumTree, link, CondTree, compare, junction, ValueTree, numeric, logical, state}
-use Rattle.wf_ast.specs.TypedTrees.{Sort, arithmetic, ordering, joining, sort_of, type_of_node, made, named, num_type, num_chain, cond_chain, chain_of, comparison, first_sign, answer_of, num_in, cond_in, slice_in, end_in}
+use Rattle.wf_ast.specs.TypedTrees.{OperatorKind, arithmetic, ordering, joining, operator_kind, type_of_node, made, named, num_type, num_chain, cond_chain, chain_of, comparison, first_sign, answer_of, num_in, cond_in, slice_in, end_in}
 use Rattle.wf_ast.specs.TypedInvariant.{parts_of, is_numeric, is_logical, is_state, is_list, is_tree_of, parts_fit, kind_fits, chain_fits, cut_parts, optional_numeric, compares_kinds, all_numeric, has_kind}
 use Rattle.wf_ast.specs.WellTyped.{same_mark}
 use Rattle.wf_ast.specs.Value.{same_truth}
@@ -185,13 +185,13 @@ cond_form : (at at0 : Place) (both both0 joined : Bool) (s b : CondTree) (ts : L
 cond_form at at0 both both0 joined s b [] = (refl, refl)
 cond_form at at0 both both0 joined s b (t ∷ ts) = cond_form at at both both true (junction at0 both0 joined s b) (cond_in t) ts
 
-abbrev sort_form : Sort → ℕ
+abbrev sort_form : OperatorKind → ℕ
 sort_form (arithmetic op) = 1
 sort_form (ordering op) = 2
 sort_form (joining both) = 3
 
 module _ (nodes : TypedNodes) (look : ExprId → ValueTree) where
-  chain_form : (at : Place) (signs : List Place) (sort : Sort) (es : List ExprId) (ty : Ty) → chain_fits nodes sort es ty ≡ true
+  chain_form : (at : Place) (signs : List Place) (sort : OperatorKind) (es : List ExprId) (ty : Ty) → chain_fits nodes sort es ty ≡ true
       → (form (chain_of at signs ty sort (map look es)) ≡ 3) × (operator_form (chain_of at signs ty sort (map look es)) ≡ sort_form sort)
   chain_form at [] (arithmetic op) (e ∷ f ∷ es) ty h = num_form at at at op op _ _ false _ _ (map look es) []
   chain_form at (sign ∷ signs) (arithmetic op) (e ∷ f ∷ es) ty h = num_form at sign at op op _ _ false _ _ (map look es) signs
@@ -226,12 +226,12 @@ module _ (nodes : TypedNodes) (look : ExprId → ValueTree) where
       let g' = both_true (is_tree_of (type_of_node nodes d.0) (look d)) _ g in
       rw (conds_same (look e) (look d) (cond_tree _ _ a'.0 f'.0) (cond_tree _ _ b'.0 g'.0), conds_all es ds a'.1 b'.1 f'.1 g'.1) refl
 
-  chains_differ : (at at' : Place) (signs signs' : List Place) (ty ty' : Ty) (s s' : Sort) (es fs : List ExprId) → chain_fits nodes s es ty ≡ true → chain_fits nodes s' fs ty' ≡ true
+  chains_differ : (at at' : Place) (signs signs' : List Place) (ty ty' : Ty) (s s' : OperatorKind) (es fs : List ExprId) → chain_fits nodes s es ty ≡ true → chain_fits nodes s' fs ty' ≡ true
       → nat_eq (sort_form s) (sort_form s') ≡ false → same (chain_of at signs ty s (map look es)) (chain_of at' signs' ty' s' (map look fs)) ≡ false
   chains_differ at at' signs signs' ty ty' s s' es fs h k d =
       operator_forms_differ (chain_of at signs ty s (map look es)) (chain_of at' signs' ty' s' (map look fs)) (rw ((chain_form at signs s es ty h).1, (chain_form at' signs' s' fs ty' k).1) d)
 
-  chains_same : (at at' : Place) (signs signs' : List Place) (ty ty' : Ty) (s s' : Sort) (es fs : List ExprId) → chain_fits nodes s es ty ≡ true → chain_fits nodes s' fs ty' ≡ true
+  chains_same : (at at' : Place) (signs signs' : List Place) (ty ty' : Ty) (s s' : OperatorKind) (es fs : List ExprId) → chain_fits nodes s es ty ≡ true → chain_fits nodes s' fs ty' ≡ true
       → list_all (λ part. is_tree_of (type_of_node nodes part.0) (look part)) es ≡ true → list_all (λ part. is_tree_of (type_of_node nodes part.0) (look part)) fs ≡ true
       → same (chain_of at signs ty s (map look es)) (chain_of at' signs' ty' s' (map look fs)) ≡ (same_sort s s' (num_type ty).bits (num_type ty').bits && all_same look es fs)
   chains_same at at' signs signs' ty ty' (arithmetic op) (arithmetic op') (e ∷ e2 ∷ es) (d ∷ d2 ∷ ds) h k f g =
@@ -333,7 +333,7 @@ module _ (nodes : TypedNodes) (look : ExprId → ValueTree) where
   made_form at signs ty (exprs.Arg x) h = variable_form at ty (arg x.0) (arg_kind nodes look at signs ty x.0 h)
   made_form at signs ty (exprs.Index base index) h = refl
   made_form at signs ty (exprs.Cut base from to) h = refl
-  made_form at signs ty (exprs.Chain op parts) h = (chain_form at signs (sort_of op) parts ty h).0
+  made_form at signs ty (exprs.Chain op parts) h = (chain_form at signs (operator_kind op) parts ty h).0
   made_form at signs ty (exprs.Convert of to) h = refl
   made_form at signs ty (exprs.Not of) h = refl
   made_form at signs ty (exprs.Base on sig) h = answer_form at sig (look on) (both_true (same_mark (row_of sig).mark Pure) _ h).0
@@ -381,7 +381,7 @@ module _ (nodes : TypedNodes) (look : ExprId → ValueTree) where
         let k2 = both_true (optional_numeric nodes from') _ k'.1 in
         cuts_same base base' from to from' to' h'.0 k'.0 h2.0 h2.1 k2.0 k2.1 f g
     made_same (exprs.Chain op parts) (exprs.Chain op' parts') h k f g =
-        chains_same at at' signs signs' ty ty' (sort_of op) (sort_of op') parts parts' h k f g
+        chains_same at at' signs signs' ty ty' (operator_kind op) (operator_kind op') parts parts' h k f g
         ∙ ap (λ z. z && all_same look parts parts') (sym (sorts_same op op' ty ty'))
     made_same (exprs.Convert of to) (exprs.Convert of' to') h k f g =
         let h' = both_true (is_numeric ty) _ h in

@@ -13,7 +13,7 @@ use Rattle.wf_ast.specs.declared.typed_code.Expr.{Expr}
 use Rattle.wf_ast.specs.declared.typed_code.Expr.TheVariants as exprs
 use Rattle.wf_ast.specs.declared.typed_nodes.TypedNodes.{TypedNodes}
 use Rattle.wf_ast.specs.TypedTree.{NumTree, SliceTree, StatusTree, CondTree, ValueTree, numeric, logical, state, elements, local, field, arg, Order, equal, differs}
-use Rattle.wf_ast.specs.TypedTrees.{Sort, arithmetic, ordering, joining, sort_of, type_of_node, made, made_or_number, named, chain_of, comparison, answer_of}
+use Rattle.wf_ast.specs.TypedTrees.{OperatorKind, arithmetic, ordering, joining, operator_kind, type_of_node, made, made_or_number, named, chain_of, comparison, answer_of}
 use Rattle.wf_ast.specs.TypedInvariant.{is_numeric, is_logical, is_state, is_list, is_tree_of, kind_fits, node_fits, chain_fits, is_given, has_kind}
 use Rattle.wf_ast.specs.WellTyped.{same_mark}
 use Rattle.wf_ast.proofs.Arena.{both_true}
@@ -58,7 +58,7 @@ answer_kind at sigs.IsError ty t h k = cond_kind ty _ k
 answer_kind at sig ty t h k = absurd (cc (h))
 
 module _ (nodes : TypedNodes) (look : ExprId → ValueTree) (at : Place) (signs : List Place) where
-  chain_kind : (sort : Sort) (es : List ExprId) (ty : Ty) → chain_fits nodes sort es ty ≡ true → is_tree_of ty (chain_of at signs ty sort (map look es)) ≡ true
+  chain_kind : (sort : OperatorKind) (es : List ExprId) (ty : Ty) → chain_fits nodes sort es ty ≡ true → is_tree_of ty (chain_of at signs ty sort (map look es)) ≡ true
   chain_kind (arithmetic op) (e ∷ f ∷ es) ty h = num_kind ty _ (both_true (is_numeric ty) _ h).0
   chain_kind (joining both) (e ∷ f ∷ es) ty h = cond_kind ty _ (both_true (is_logical ty) _ h).0
   chain_kind (ordering op) (e ∷ f ∷ []) ty h = comparison_kind at _ ty op (look e) (look f) (both_true (is_logical ty) _ h).0
@@ -99,7 +99,7 @@ module _ (nodes : TypedNodes) (look : ExprId → ValueTree) (at : Place) (signs 
   made_kind ty (exprs.Arg x) h = arg_kind ty x.0 h
   made_kind ty (exprs.Index base index) h = num_kind ty _ (both_true (is_numeric ty) _ h).0
   made_kind ty (exprs.Cut base from to) h = list_kind ty _ (both_true (is_list ty) _ h).0
-  made_kind ty (exprs.Chain op parts) h = chain_kind (sort_of op) parts ty h
+  made_kind ty (exprs.Chain op parts) h = chain_kind (operator_kind op) parts ty h
   made_kind ty (exprs.Convert of to) h = num_kind ty _ (both_true (is_numeric ty) _ h).0
   made_kind ty (exprs.Not of) h = cond_kind ty _ (both_true (is_logical ty) _ h).0
   made_kind ty (exprs.Base on sig) h =

@@ -1,4 +1,4 @@
--- The tree of a node is made of the trees of its parts, and keeps while nodes are added.
+-- A node's tree is made of those of its parts, and stays while nodes are added.
 use Rattle.std.proofs.Common.{if◌then◌else◌, true, false, ◌≡◌, ◌+◌, ◌<◌, ◌≤◌, ℕ, Bool, Option, None, Some, List, [], ◌∷◌, ◌++◌, length, refl, sym, ◌∙◌, ap, subst, arith, suc, zero, length-append}
 use Rattle.std.specs.List.{slice_get, AllByRecursion}
 use Rattle.wf_text.specs.declared.place.Place.{Place}

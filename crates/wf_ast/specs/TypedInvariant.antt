@@ -24,7 +24,7 @@ use Rattle.wf_ast.specs.declared.declarations.Var.{Var}
 use Rattle.wf_ast.specs.declared.declarations.Method.{Method}
 use Rattle.wf_ast.specs.declared.typed_nodes.TypedNodes.{TypedNodes}
 use Rattle.wf_ast.specs.TypedTree.{equal, differs, local, ValueTree, numeric, logical, state, elements, io, Block, end, plain, choose, loop}
-use Rattle.wf_ast.specs.TypedTrees.{Sort, arithmetic, ordering, joining, sort_of, named, tree_of, type_of_node, constant_of_node, place_of_node}
+use Rattle.wf_ast.specs.TypedTrees.{OperatorKind, arithmetic, ordering, joining, operator_kind, named, tree_of, type_of_node, constant_of_node, place_of_node}
 use Rattle.wf_ast.specs.TypedPackage.{package_of}
 use Rattle.wf_ast.specs.StatementOrder.{stand_in_order}
 use Rattle.wf_ast.specs.BaseStatuses.{base_statuses}
@@ -150,12 +150,12 @@ parts_fit nodes look expr = list_all (λ part. is_tree_of (type_of_node nodes pa
 abbrev pub all_numeric : TypedNodes → List ExprId → Bool
 all_numeric nodes es = list_all (λ e. is_numeric (type_of_node nodes e.0)) es
 
-abbrev pub compares_kinds : Sort → (a b : Ty) → Bool
+abbrev pub compares_kinds : OperatorKind → (a b : Ty) → Bool
 compares_kinds (ordering equal) a b = (is_numeric a && is_numeric b) || (is_state a && is_state b)
 compares_kinds (ordering differs) a b = (is_numeric a && is_numeric b) || (is_state a && is_state b)
 compares_kinds sort a b = is_numeric a && is_numeric b
 
-abbrev pub chain_fits : TypedNodes → Sort → List ExprId → Ty → Bool
+abbrev pub chain_fits : TypedNodes → OperatorKind → List ExprId → Ty → Bool
 chain_fits nodes (arithmetic op) (e ∷ f ∷ es) ty = is_numeric ty && all_numeric nodes (e ∷ f ∷ es)
 chain_fits nodes (joining both) (e ∷ f ∷ es) ty = is_logical ty && list_all (λ part. is_logical (type_of_node nodes part.0)) (e ∷ f ∷ es)
 chain_fits nodes (ordering op) (e ∷ f ∷ []) ty = is_logical ty && compares_kinds (ordering op) (type_of_node nodes e.0) (type_of_node nodes f.0)
@@ -176,7 +176,7 @@ kind_fits nodes ty (exprs.Field x) = is_numeric ty || (is_logical ty || (is_stat
 kind_fits nodes ty (exprs.Arg x) = is_numeric ty || (is_logical ty || (is_list ty || is_io ty))
 kind_fits nodes ty (exprs.Index base at) = is_numeric ty && (is_list (type_of_node nodes base.0) && is_numeric (type_of_node nodes at.0))
 kind_fits nodes ty (exprs.Cut base from to) = is_list ty && (is_list (type_of_node nodes base.0) && (optional_numeric nodes from && optional_numeric nodes to))
-kind_fits nodes ty (exprs.Chain op parts) = chain_fits nodes (sort_of op) parts ty
+kind_fits nodes ty (exprs.Chain op parts) = chain_fits nodes (operator_kind op) parts ty
 kind_fits nodes ty (exprs.Convert of to) = is_numeric ty && is_numeric (type_of_node nodes of.0)
 kind_fits nodes ty (exprs.Not of) = is_logical ty && is_logical (type_of_node nodes of.0)
 kind_fits nodes ty (exprs.Base on sig) = same_mark (row_of sig).mark Pure && (has_kind (row_of sig).on (type_of_node nodes on.0) && is_given (row_of sig).gives ty)

@@ -1,6 +1,6 @@
 -- A typed package as mathematical data, and what a host sees of it.
 use Rattle.std.specs.Prelude.{ℕ, suc, Bool, Option, None, Some, List, [], ◌∷◌, map, if◌then◌else◌, nat_eq, ◌&&◌}
-use Rattle.wf_text.specs.Surface.{Surface, PublicStruct, PublicMethod, PublicArg, ArgKind, number, flag, reader, writer, slice, AnswerKind}
+use Rattle.wf_text.specs.Surface.{Surface, PublicStruct, PublicMethod, ArgKind, number, flag, reader, writer, slice, AnswerKind}
 use Rattle.wf_text.specs.Surface as surface
 use Rattle.wf_base.specs.declared.marks.Mark.{Mark}
 use Rattle.wf_base.specs.declared.marks.Mark.TheVariants.{Pure, Impure, Coroutine}
@@ -37,13 +37,15 @@ pub record MethodTree : Type 0 where
   pub body : Block
 
 -- Structs, methods and statuses have their places in these lists as their numbers. `statuses` has the texts that a
--- caller sees. `order` has the numbers of all methods, each after those that it calls.
+-- caller sees. `order` has the numbers of all methods, each after those that it calls, and `struct_order` those of all
+-- structs, each after those that its fields hold.
 pub record PackageTree : Type 0 where
   pub package_name : List ℕ
   pub statuses : List (List ℕ)
   pub structs : List StructTree
   pub methods : List MethodTree
   pub order : List ℕ
+  pub struct_order : List ℕ
 
 abbrev pub variable_of : TypedNodes → Var → Variable
 variable_of nodes x = record { name = text_of nodes x.name; ty = x.ty }
@@ -64,7 +66,7 @@ methods_of nodes (m ∷ ms) (body ∷ bodies) = method_of nodes m body ∷ metho
 -- The package that these nodes make.
 unfoldable pub package_of : TypedNodes → PackageTree
 package_of nodes =
-    record { package_name = nodes.package; statuses = nodes.statuses; structs = map (struct_of nodes) nodes.structs; methods = methods_of nodes nodes.methods nodes.bodies; order = nodes.order }
+    record { package_name = nodes.package; statuses = nodes.statuses; structs = map (struct_of nodes) nodes.structs; methods = methods_of nodes nodes.methods nodes.bodies; order = nodes.order; struct_order = nodes.struct_order }
 
 -- What a host knows of an argument, and of an answer. A coroutine answers a status.
 abbrev pub kind_of : Ty → ArgKind

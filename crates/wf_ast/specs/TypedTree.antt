@@ -57,8 +57,8 @@ pub data Question : Type 0 where
   writer_length : Question
   writer_position : Question
 
--- Numbers and slices. An operator has two operands: a chain of more is one operator before the other, each but
--- the first `joined` to what stands left of it.
+-- Numbers and slices. An operator has two operands: a chain of more is one operator before the other, and
+-- from the second on each is `joined` to what the ones before it make.
 mutual
   pub data NumTree : Type 0 where
     number : (at : Place) → (value : ℕ) → NumTree

@@ -33,36 +33,36 @@ pub use Rattle.wf_ast.specs.Places.{no_place}
 use Rattle.wf_ast.specs.TypedTree.{Path, local, field, arg, NumType, Arith, plus, minus, times, divided, remainder, shift_left, shift_right, bits_and, bits_or, bits_xor, mod_plus, mod_minus, mod_times, mod_shift_left, sat_plus, sat_minus, Order, less, at_most, equal, differs, at_least, greater, reader_length, reader_position, peek, writer_length, writer_position, NumTree, number, read, element, link, convert, length_of, asked, SliceTree, slice, array, cut, EndTree, absent, present, StatusTree, status, held, no_status, CondTree, truth, flag, compare, same_status, junction, negation, closed, has_category, ValueTree, numeric, logical, state, elements, io, lost, Target, to_number, to_element, to_flag, to_status, to_slice, to_nothing, take_number, skip, write, skip_fast, write_fast, copy_to_writer, copy_to_slice, own, sub, Axiom, Simple, assign, await, perform, invoke, break_from, continue_in, give_back, yield, claim, Site, Head, Block, end, plain, choose, loop}
 
 -- The kinds of operators.
-pub data Sort : Type 0 where
-  arithmetic : Arith → Sort
-  ordering : Order → Sort
-  joining : (both : Bool) → Sort
+pub data OperatorKind : Type 0 where
+  arithmetic : Arith → OperatorKind
+  ordering : Order → OperatorKind
+  joining : (both : Bool) → OperatorKind
 
-abbrev pub sort_of : Op → Sort
-sort_of ops.Add = arithmetic plus
-sort_of ops.Mul = arithmetic times
-sort_of ops.BitAnd = arithmetic bits_and
-sort_of ops.BitOr = arithmetic bits_or
-sort_of ops.BitXor = arithmetic bits_xor
-sort_of ops.And = joining true
-sort_of ops.Or = joining false
-sort_of ops.Sub = arithmetic minus
-sort_of ops.Div = arithmetic divided
-sort_of ops.Rem = arithmetic remainder
-sort_of ops.Shl = arithmetic shift_left
-sort_of ops.Shr = arithmetic shift_right
-sort_of ops.Same = ordering equal
-sort_of ops.Differs = ordering differs
-sort_of ops.Less = ordering less
-sort_of ops.LessOrSame = ordering at_most
-sort_of ops.Greater = ordering greater
-sort_of ops.GreaterOrSame = ordering at_least
-sort_of ops.ModAdd = arithmetic mod_plus
-sort_of ops.ModSub = arithmetic mod_minus
-sort_of ops.ModMul = arithmetic mod_times
-sort_of ops.ModShl = arithmetic mod_shift_left
-sort_of ops.SatAdd = arithmetic sat_plus
-sort_of ops.SatSub = arithmetic sat_minus
+abbrev pub operator_kind : Op → OperatorKind
+operator_kind ops.Add = arithmetic plus
+operator_kind ops.Mul = arithmetic times
+operator_kind ops.BitAnd = arithmetic bits_and
+operator_kind ops.BitOr = arithmetic bits_or
+operator_kind ops.BitXor = arithmetic bits_xor
+operator_kind ops.And = joining true
+operator_kind ops.Or = joining false
+operator_kind ops.Sub = arithmetic minus
+operator_kind ops.Div = arithmetic divided
+operator_kind ops.Rem = arithmetic remainder
+operator_kind ops.Shl = arithmetic shift_left
+operator_kind ops.Shr = arithmetic shift_right
+operator_kind ops.Same = ordering equal
+operator_kind ops.Differs = ordering differs
+operator_kind ops.Less = ordering less
+operator_kind ops.LessOrSame = ordering at_most
+operator_kind ops.Greater = ordering greater
+operator_kind ops.GreaterOrSame = ordering at_least
+operator_kind ops.ModAdd = arithmetic mod_plus
+operator_kind ops.ModSub = arithmetic mod_minus
+operator_kind ops.ModMul = arithmetic mod_times
+operator_kind ops.ModShl = arithmetic mod_shift_left
+operator_kind ops.SatAdd = arithmetic sat_plus
+operator_kind ops.SatSub = arithmetic sat_minus
 
 -- Trees of the kind that is wanted. What has another kind stands as one that no typed package has.
 abbrev pub no_number : NumTree
@@ -125,7 +125,7 @@ comparison at sign equal (state a) b = logical (same_status at sign a true (stat
 comparison at sign differs (state a) b = logical (same_status at sign a false (status_in b))
 comparison at sign op a b = logical (compare at sign (num_in a) op (num_in b))
 
-abbrev pub chain_of : Place → List Place → Ty → Sort → List ValueTree → ValueTree
+abbrev pub chain_of : Place → List Place → Ty → OperatorKind → List ValueTree → ValueTree
 chain_of at signs ty (arithmetic op) (t ∷ ts) = numeric (num_chain at op (num_type ty).bits false (num_in t) ts signs)
 chain_of at signs ty (joining both) (t ∷ ts) = logical (cond_chain at both false (cond_in t) ts)
 chain_of at signs ty (ordering op) (t ∷ u ∷ ts) = comparison at (first_sign at signs) op t u
@@ -162,7 +162,7 @@ made look at signs ty (exprs.Field x) = named at ty (field x.0)
 made look at signs ty (exprs.Arg x) = named at ty (arg x.0)
 made look at signs ty (exprs.Index base index) = numeric (element at (num_type ty) (slice_in (look base)) (num_in (look index)))
 made look at signs ty (exprs.Cut base from to) = elements (cut at (slice_in (look base)) (end_in look from) (end_in look to))
-made look at signs ty (exprs.Chain op parts) = chain_of at signs ty (sort_of op) (map look parts)
+made look at signs ty (exprs.Chain op parts) = chain_of at signs ty (operator_kind op) (map look parts)
 made look at signs ty (exprs.Convert of to) = numeric (convert at (first_sign at signs) (bits_of to) (num_in (look of)))
 made look at signs ty (exprs.Not of) = logical (negation at (cond_in (look of)))
 made look at signs ty (exprs.Base on sig) = answer_of at sig (look on)
@@ -219,13 +219,13 @@ optional_target look None = to_nothing
 optional_target look (Some e) = target_of (look e)
 
 -- The operator of an assignment with one.
-abbrev pub arithmetic_of : Sort → Option Arith
+abbrev pub arithmetic_of : OperatorKind → Option Arith
 arithmetic_of (arithmetic op) = Some op
 arithmetic_of sort = None
 
 abbrev pub assigned_by : Option Op → Option Arith
 assigned_by None = None
-assigned_by (Some op) = arithmetic_of (sort_of op)
+assigned_by (Some op) = arithmetic_of (operator_kind op)
 
 -- What no typed package has as a statement.
 abbrev pub no_statement : Simple

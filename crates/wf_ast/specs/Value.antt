@@ -1,7 +1,7 @@
--- The value of an expression: a whole number without width, a truth value, a status or a slice. All operands are
--- evaluated. `None` stands for an expression that is stuck: a node leaves its width, an operand of `as` leaves the new
--- width, a shift isn't below the width, a divisor is 0, an index or a slice leaves its bounds, or what a base method
--- needs isn't there.
+-- What an expression comes to: a status, a slice, a truth value, or a whole number, to which no width belongs. No operand is
+-- left out. `None` stands for an expression that is stuck: the number of a node is too large for its width, or one that `as`
+-- takes for the new width; a shift is by the width or more; it divides by 0; an index or a slice leaves its bounds; or a base
+-- method lacks what it needs.
 use Rattle.std.specs.Prelude.{ℕ, zero, suc, ◌+◌, ◌-◌, ◌*◌, ◌/◌, ◌%◌, ◌^◌, min, Bool, true, false, not, ◌&&◌, ◌||◌, List, Option, None, Some, option_and_then, option_map, if◌then◌else◌, nat_eq, nat_lt, nat_le, bit_and, bit_or, bit_xor, slice_get}
 use Rattle.wf_text.specs.declared.categories.Category.{Category}
 use Rattle.wf_text.specs.declared.categories.Category.TheVariants.{Fine, Note, Suspension, Fault}

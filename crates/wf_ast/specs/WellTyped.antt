@@ -470,6 +470,15 @@ abbrev pub all_structs_whole : PackageTree → (n : ℕ) → List StructTree →
 all_structs_whole p n [] = true
 all_structs_whole p n (s ∷ ss) = is_whole p (length p.structs) n && (list_all (λ x. may_be_field p x.ty) s.fields && all_structs_whole p (suc n) ss)
 
+-- Each struct of the list holds only those that stand before it.
+abbrev pub structs_in_front : PackageTree → (front rest : List ℕ) → Bool
+structs_in_front p front [] = true
+structs_in_front p front (s ∷ ss) = is_whole_struct (is_among front) (slice_get p.structs s) && (not (is_among front s) && structs_in_front p (s ∷ front) ss)
+
+-- The order of the structs has them all, each after those that its fields hold.
+abbrev pub has_struct_order : PackageTree → Bool
+has_struct_order p = nat_eq (length p.struct_order) (length p.structs) && structs_in_front p [] p.struct_order
+
 -- A package that keeps the rules.
 unfoldable pub well_typed : PackageTree → Bool
-well_typed p = all_structs_whole p 0 p.structs && (list_all (well_method p) p.methods && (nat_eq (length p.order) (length p.methods) && calls_in_front p [] p.order))
+well_typed p = all_structs_whole p 0 p.structs && (list_all (well_method p) p.methods && (nat_eq (length p.order) (length p.methods) && (calls_in_front p [] p.order && has_struct_order p)))

@@ -1,7 +1,7 @@
 // The parsed tree of a package: its name, its texts and its nodes. A node's parts stand before it, so a
 // walk from a node down to its parts ends.
 
-ghost use Rattle.std.specs.Prelude.{◌≡◌, ◌+◌, ◌<◌, ◌^◌, ◌++◌, [], ◌∷◌, ℕ, List, Some, length, map, slice_get, IfOk, OnOk, OnErr, OnSome};
+ghost use Rattle.std.specs.Prelude.{◌≡◌, ◌+◌, ◌<◌, ◌^◌, ◌++◌, [], ◌∷◌, Some, length, slice_get, IfOk, OnOk, OnErr};
 ghost use Rattle.wf_ast.specs.ParsedParts.{Parsed, JoinsText, AreDistinct, ExprParts, StmtParts, DeclParts};
 ghost use Rattle.wf_ast.specs.ParsedTrees.{expr_trees, stmt_trees, expr_made, stmt_made, expr_at, stmt_at};
 

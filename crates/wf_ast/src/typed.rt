@@ -116,7 +116,7 @@ impl Typed {
         self.nodes.types.as_slice()[e.0 as usize]
     }
 
-    /// The number of a constant numeric expression, and None exactly for every other expression.
+    /// The number of an expression where it is numeric and constant, and None exactly where it isn't.
     pub fn constant(&self, e: ExprId) -> Option<u64>
         requires { e.0 < length self.now.exprs }
         ensures { result ≡ constant_of_node self.now e.0 }
@@ -226,6 +226,13 @@ impl Typed {
         ensures { result.now ≡ self.now.order }
     {
         self.nodes.order.as_slice()
+    }
+
+    /// The structs in an order in which each stands after those that its fields hold.
+    pub fn struct_order(&self) -> &[u32]
+        ensures { result.now ≡ self.now.struct_order }
+    {
+        self.nodes.struct_order.as_slice()
     }
 }
 

@@ -29,6 +29,8 @@ pub struct TypedNodes {
     pub first_locals: Sequence<ExprId>,
     /// The numbers of all methods, each after those that it calls.
     pub order: Sequence<u32>,
+    /// The numbers of all structs, each after those that its fields hold.
+    pub struct_order: Sequence<u32>,
 }
 
 impl Drop for TypedNodes {
@@ -46,6 +48,7 @@ impl Drop for TypedNodes {
             bodies: _,
             first_locals: _,
             order: _,
+            struct_order: _,
         } = self;
     }
 }

@@ -5,7 +5,7 @@ use Rattle.wf_ast.specs.declared.numbers.ExprId.{ExprId}
 use Rattle.wf_ast.specs.declared.types.Ty.{Ty}
 use Rattle.wf_ast.specs.declared.typed_nodes.TypedNodes.{TypedNodes}
 use Rattle.wf_ast.specs.TypedTree.{CondTree, junction, ValueTree}
-use Rattle.wf_ast.specs.TypedTrees.{Sort, arithmetic, ordering, joining, cond_in, cond_chain, chain_of, tree_of}
+use Rattle.wf_ast.specs.TypedTrees.{OperatorKind, arithmetic, ordering, joining, cond_in, cond_chain, chain_of, tree_of}
 use Rattle.wf_ast.specs.TypedInvariant.{is_numeric, is_logical, chain_fits}
 use Rattle.wf_facts_exprs.proofs.PassLemmas.{both_of}
 use Rattle.wf_facts_exprs.proofs.JudgeLemmas.{numeric-not-logical}
@@ -16,7 +16,7 @@ junction-none at both joined so_far t [] = refl
 junction-none at both joined so_far t (u ∷ us) = junction-none at both true (junction at both joined so_far (cond_in t)) u us
 
 -- An operator that doesn't compare.
-pub chain-none : (nodes : TypedNodes) (at : Place) (signs : List Place) (ty : Ty) (sort : Sort) (es : List ExprId) → chain_fits nodes sort es ty ≡ true → is_logical ty ≡ true → None ≡ order_by sort
+pub chain-none : (nodes : TypedNodes) (at : Place) (signs : List Place) (ty : Ty) (sort : OperatorKind) (es : List ExprId) → chain_fits nodes sort es ty ≡ true → is_logical ty ≡ true → None ≡ order_by sort
     → None ≡ comparison_in (cond_in (chain_of at signs ty sort (map (tree_of nodes) es)))
 chain-none nodes at signs ty (arithmetic op) (e ∷ f ∷ es) h k l = absurd (numeric-not-logical ty (both_of (is_numeric ty) _ h).0 k)
 chain-none nodes at signs ty (joining both) (e ∷ f ∷ es) h k l = junction-none at both false (cond_in (tree_of nodes e)) (tree_of nodes f) (map (tree_of nodes) es)

@@ -7,7 +7,7 @@ use Rattle.wf_ast.specs.declared.numbers.ExprId.{ExprId}
 use Rattle.wf_ast.specs.declared.numbers.TextId.{TextId}
 use Rattle.wf_ast.specs.declared.typed_nodes.TypedNodes.{TypedNodes}
 use Rattle.wf_ast.specs.TypedTree.{NumTree, number, link, plus, CondTree, compare, Order}
-use Rattle.wf_ast.specs.TypedTrees.{Sort, ordering, no_place, num_in, tree_of, text_of}
+use Rattle.wf_ast.specs.TypedTrees.{OperatorKind, ordering, no_place, num_in, tree_of, text_of}
 use Rattle.wf_ast.specs.Same.{same_num, same_order}
 use Rattle.wf_facts_exprs.specs.declared.facts.Cmp.{Cmp}
 use Rattle.wf_facts_exprs.specs.Claims.{SideTree, single, sum_of, Claim, compared, order_of}
@@ -157,6 +157,6 @@ abbrev pub given_trees : TypedNodes → List (TextId × ExprId) → List (List �
 given_trees nodes given = map (λ g. (text_of nodes g.0, num_in (tree_of nodes g.1))) given
 
 -- How the operators of a kind compare.
-abbrev pub order_by : Sort → Option Order
+abbrev pub order_by : OperatorKind → Option Order
 order_by (ordering op) = Some op
 order_by sort = None

@@ -44,6 +44,7 @@ impl Premises {
 pub enum AxiomFault {
     /// The goal hasn't the form of what follows by the axiom.
     NotTheForm,
-    /// A letter is neither bound by the goal nor given, or a given one is doubled, bound by the goal or not in the axiom.
+    /// A letter has no tree, neither by the goal nor given; or a given letter isn't one of the axiom's, is the goal's, or comes
+    /// twice.
     UnboundLetter,
 }

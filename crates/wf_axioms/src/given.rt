@@ -1,7 +1,6 @@
 // The letters of an axiom that are given with their expressions.
 
-ghost use Rattle.std.specs.Prelude.{◌≡◌, true, find, nat_eq, option_map, IfSome, IsTrue, All};
-ghost use Rattle.std.specs.Cmp.Lexicographic.{pointwise};
+ghost use Rattle.std.specs.Prelude.{◌≡◌, true, find, option_map, IfSome, IsTrue, All};
 ghost use Rattle.wf_ast.specs.TypedTrees.{num_in, text_of, tree_of};
 ghost use Rattle.wf_ast.specs.NodeKinds.{is_number_at};
 ghost use Rattle.wf_axioms.specs.Axioms.{letter_text};

@@ -2,7 +2,7 @@
 
 ghost use Rattle.std.specs.Prelude.{◌≡◌, ◌&&◌, option_map, map, nat_lt, IsTrue, IfSome};
 ghost use Rattle.std.specs.List.{list_all};
-ghost use Rattle.wf_ast.specs.TypedTrees.{num_in, cond_in, tree_of, chain_of, place_of_node, signs_of_node, sort_of, type_of_node};
+ghost use Rattle.wf_ast.specs.TypedTrees.{num_in, cond_in, tree_of, chain_of, place_of_node, signs_of_node, operator_kind, type_of_node};
 ghost use Rattle.wf_ast.specs.TypedInvariant.{chain_fits, is_expr, is_numeric, is_tree_of};
 ghost use Rattle.wf_ast.specs.Same.{same_order};
 ghost use Rattle.wf_ast.specs.NodeKinds.{is_number_at, is_condition_at};
@@ -89,8 +89,8 @@ fn summands(t: &Typed, e: ExprId) -> Option<(ExprId, ExprId)>
 
 fn operands(t: &Typed, e: ExprId, op: Op, parts: &[ExprId]) -> Option<(ExprId, ExprId)>
     requires node { IsTrue (is_number_at t.now e) }
-    requires tree { tree_of t.now e ≡ chain_of (place_of_node t.now e.0) (signs_of_node t.now e.0) (type_of_node t.now e.0) (sort_of op) (map (tree_of t.now) parts.now) }
-    requires fits { IsTrue (chain_fits t.now (sort_of op) parts.now (type_of_node t.now e.0)) }
+    requires tree { tree_of t.now e ≡ chain_of (place_of_node t.now e.0) (signs_of_node t.now e.0) (type_of_node t.now e.0) (operator_kind op) (map (tree_of t.now) parts.now) }
+    requires fits { IsTrue (chain_fits t.now (operator_kind op) parts.now (type_of_node t.now e.0)) }
     requires below { IsTrue (list_all (λ p. nat_lt p.0 e.0) parts.now) }
     ensures trees { option_map (λ p. (num_in (tree_of t.now p.0), num_in (tree_of t.now p.1))) result ≡ summands_of (num_in (tree_of t.now e)) }
     ensures numbers { IfSome result (λ p. IsTrue (is_number_at t.now p.0 && is_number_at t.now p.1)) }
@@ -132,8 +132,8 @@ fn comparison(t: &Typed, goal: ExprId) -> Option<(ExprId, Cmp, ExprId)>
 
 fn compared(t: &Typed, e: ExprId, op: Op, parts: &[ExprId]) -> Option<(ExprId, Cmp, ExprId)>
     requires node { IsTrue (is_condition_at t.now e) }
-    requires tree { tree_of t.now e ≡ chain_of (place_of_node t.now e.0) (signs_of_node t.now e.0) (type_of_node t.now e.0) (sort_of op) (map (tree_of t.now) parts.now) }
-    requires fits { IsTrue (chain_fits t.now (sort_of op) parts.now (type_of_node t.now e.0)) }
+    requires tree { tree_of t.now e ≡ chain_of (place_of_node t.now e.0) (signs_of_node t.now e.0) (type_of_node t.now e.0) (operator_kind op) (map (tree_of t.now) parts.now) }
+    requires fits { IsTrue (chain_fits t.now (operator_kind op) parts.now (type_of_node t.now e.0)) }
     requires below { IsTrue (list_all (λ p. nat_lt p.0 e.0) parts.now) }
     ensures trees { option_map (λ p. (num_in (tree_of t.now p.0), order_of p.1, num_in (tree_of t.now p.2))) result ≡ comparison_in (cond_in (tree_of t.now e)) }
     ensures numbers { IfSome result (λ p. IsTrue (is_number_at t.now p.0 && is_number_at t.now p.2)) }
@@ -149,7 +149,7 @@ fn compared(t: &Typed, e: ExprId, op: Op, parts: &[ExprId]) -> Option<(ExprId, C
 
 // How an operator compares.
 fn cmp_of(op: Op) -> Option<Cmp>
-    ensures { option_map order_of result ≡ order_by (sort_of op) }
+    ensures { option_map order_of result ≡ order_by (operator_kind op) }
 {
     match op {
         Op::Same => Some(Cmp::Eq),

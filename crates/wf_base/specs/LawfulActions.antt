@@ -28,7 +28,7 @@ FitsKind buffers arrays writer (io name) = IfSome name (λ k. k < buffers)
 FitsKind buffers arrays (slice bits) (bytes name) = (bits ≡ 8) × IfSome name (λ k. k < arrays)
 FitsKind buffers arrays kind arg = ⊥
 
--- The arguments are as many as the method's, and each is of its kind.
+-- For each of the method's there is one argument, of its kind.
 abbrev pub FitKinds : (buffers arrays : ℕ) → List PublicArg → List HostArg → Type 0
 FitKinds buffers arrays [] [] = ⊤
 FitKinds buffers arrays (declared ∷ others) (arg ∷ args) = FitsKind buffers arrays declared.kind arg × FitKinds buffers arrays others args
@@ -54,7 +54,7 @@ abbrev pub AreDistinct : List ℕ → Type 0
 AreDistinct [] = ⊤
 AreDistinct (name ∷ names) = All (λ other. name ≡ other → ⊥) names × AreDistinct names
 
--- The receiver exists, the method is a public one of its struct, and the arguments fit it.
+-- There is such a receiver, its struct has the method as a public one, and the arguments fit it.
 pub record CanCall (surface : Surface) (receivers : List Receiver) (buffers arrays : ℕ) (called : HostCall) : Type 0 where
   pub fit : IsSomeAnd (called_method surface receivers called) (λ method. FitKinds buffers arrays method.args called.args)
   pub buffers_once : AreDistinct (named_buffers called.args)

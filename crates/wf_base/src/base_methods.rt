@@ -1,7 +1,7 @@
 // The table of base methods: the methods that the language brings along for readers, writers, slices, arrays
 // and statuses.
 
-ghost use Rattle.std.specs.Prelude.{◌≡◌, ℕ, IfSome, IfNone, option_map, slice_get, bytes_eq, find};
+ghost use Rattle.std.specs.Prelude.{◌≡◌, IfSome, IfNone, option_map, slice_get, bytes_eq, find};
 ghost use Rattle.wf_base.specs.BaseTable.{row_of, read_width, peek_width, name_of_read, name_of_peek, IsMethod, method_named};
 
 use crate::marks::Mark;

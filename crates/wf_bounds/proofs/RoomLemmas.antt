@@ -14,7 +14,7 @@ use Rattle.wf_ast.specs.declared.types.Ty.TheVariants as types
 use Rattle.wf_ast.specs.declared.typed_nodes.TypedNodes.{TypedNodes}
 use Rattle.wf_facts_exprs.specs.declared.facts.Fact.{Fact}
 use Rattle.wf_ast.specs.TypedTree.{Path, arg, Order, equal, differs, NumTree, number, CondTree, truth, compare, junction, negation, ValueTree, state}
-use Rattle.wf_ast.specs.TypedTrees.{Sort, arithmetic, ordering, joining, sort_of, cond_in, named, comparison, chain_of, answer_of, made, made_or_number}
+use Rattle.wf_ast.specs.TypedTrees.{OperatorKind, arithmetic, ordering, joining, operator_kind, cond_in, named, comparison, chain_of, answer_of, made, made_or_number}
 use Rattle.wf_ast.specs.OperatorForms.{is_joining}
 use Rattle.wf_facts_exprs.specs.Claims.{Claim, claim_in, claims_in, is_among, turned}
 use Rattle.wf_facts.specs.FactLists.{added, all_added, with_condition}
@@ -40,7 +40,7 @@ comparison-alone at sign equal (state a) b = refl
 comparison-alone at sign differs (state a) b = refl
 comparison-alone at sign op a b = refl
 
-chain-alone : (at : Place) (signs : List Place) (ty : Ty) (sort : Sort) (ts : List ValueTree) → not (is_joining sort) ≡ true → joins_none (cond_in (chain_of at signs ty sort ts)) ≡ true
+chain-alone : (at : Place) (signs : List Place) (ty : Ty) (sort : OperatorKind) (ts : List ValueTree) → not (is_joining sort) ≡ true → joins_none (cond_in (chain_of at signs ty sort ts)) ≡ true
 chain-alone at signs ty (arithmetic op) (t ∷ ts) h = refl
 chain-alone at signs ty (joining all) ts h = absurd (cc (h))
 chain-alone at signs ty (ordering op) (t ∷ u ∷ ts) h = comparison-alone at _ op t u
@@ -59,7 +59,7 @@ made-alone : (look : ExprId → ValueTree) (at : Place) (signs : List Place) (ty
 made-alone look at signs ty (exprs.Local x) h = named-alone at ty _
 made-alone look at signs ty (exprs.Field x) h = named-alone at ty _
 made-alone look at signs ty (exprs.Arg x) h = named-alone at ty _
-made-alone look at signs ty (exprs.Chain op parts) h = chain-alone at signs ty (sort_of op) (map look parts) h
+made-alone look at signs ty (exprs.Chain op parts) h = chain-alone at signs ty (operator_kind op) (map look parts) h
 made-alone look at signs ty (exprs.Not of) h = absurd (cc (h))
 made-alone look at signs ty (exprs.Base on sig) h = answer-alone at sig (look on)
 made-alone look at signs ty x h = refl

@@ -14,7 +14,7 @@ use Rattle.wf_ast.specs.declared.typed_code.Stmt.TheVariants as stmts
 use Rattle.wf_ast.specs.declared.typed_code.StmtNode.{StmtNode}
 use Rattle.wf_ast.specs.declared.typed_nodes.TypedNodes.{TypedNodes}
 use Rattle.wf_ast.specs.TypedTree.{CondTree, junction, negation, Simple, Site, Head, end}
-use Rattle.wf_ast.specs.TypedTrees.{onto, sort_of, stmt_makers}
+use Rattle.wf_ast.specs.TypedTrees.{onto, operator_kind, stmt_makers}
 use Rattle.wf_ast.specs.TypedPackage.{MethodTree, package_of}
 use Rattle.wf_ast.specs.WellTyped.{well_block}
 use Rattle.wf_ast.specs.NodeKinds.{is_condition_at, node_cond}
@@ -140,6 +140,6 @@ joins_none (negation at a) = false
 joins_none c = true
 
 abbrev pub joins_none_in : Expr → Bool
-joins_none_in (exprs.Chain op parts) = not (is_joining (sort_of op))
+joins_none_in (exprs.Chain op parts) = not (is_joining (operator_kind op))
 joins_none_in (exprs.Not of) = false
 joins_none_in x = true

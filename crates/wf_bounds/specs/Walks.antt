@@ -43,8 +43,8 @@ abbrev mutual
   walked_blocks a sought (fs ∷ lists) (block body blocks) =
       going_on (walked_body a sought fs body) (λ known. going_on (walked_blocks a sought lists blocks) (λ ends. Ok (passed (known ∷ ends))))
 
--- What is known where blocks meet, from what was known of those before: the facts of the first that goes on which also stand
--- in every other that does.
+-- What is known where blocks meet, from what was known of those before: of the facts of the first that goes on those that
+-- are known at the end of all the others that do.
 abbrev pub joined : Known → Known → Known
 joined None known = known
 joined (Some fs) None = Some fs

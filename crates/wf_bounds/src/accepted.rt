@@ -1,7 +1,6 @@
 // A package that is accepted.
 
 ghost use Rattle.std.specs.Prelude.{◌≡◌};
-ghost use Rattle.wf_ast.specs.TypedInvariant.{IsTyped};
 ghost use Rattle.wf_bounds.specs.Acceptance.{AcceptedPackage, IsAccepted};
 
 use std::marker::Model;

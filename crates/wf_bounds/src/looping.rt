@@ -1,10 +1,9 @@
 // What is known before a loop's body, and after the loop.
 
-ghost use Rattle.std.specs.Prelude.{◌≡◌, ◌<◌, ◌∷◌, [], Ok, true, length, Result};
+ghost use Rattle.std.specs.Prelude.{◌≡◌, ◌<◌, Ok, true, length, Result};
 ghost use Rattle.wf_text.specs.declared.rules.Refusal.{Refusal};
 ghost use Rattle.wf_facts_exprs.specs.Claims.{claims_in};
 ghost use Rattle.wf_facts.specs.IndexedFacts.{IsOver};
-ghost use Rattle.wf_loops.specs.LoopRules.{head_list};
 ghost use Rattle.wf_loops.specs.LoopNodes.{is_loop, head_at, place_at};
 ghost use Rattle.wf_bounds_stmts.specs.FactRules.{Known, behind_loop, limit_behind, unless};
 ghost use Rattle.wf_bounds.specs.Walks.{Reached, going_on, passed};

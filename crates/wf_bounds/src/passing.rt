@@ -1,7 +1,6 @@
 // A statement without blocks along a walk.
 
-ghost use Rattle.std.specs.Prelude.{◌≡◌, ◌<◌, length, true, IsTrue};
-ghost use Rattle.wf_ast.specs.TypedInvariant.{IsTyped};
+ghost use Rattle.std.specs.Prelude.{◌≡◌, ◌<◌, length, true};
 ghost use Rattle.wf_facts_exprs.specs.Claims.{claims_in};
 ghost use Rattle.wf_facts.specs.IndexedFacts.{IsOver};
 ghost use Rattle.wf_bounds_stmts.specs.Passing.{simple_at, site_at, is_single};

@@ -1,6 +1,6 @@
 // What is known where a method begins: each of its numeric locals is 0.
 
-ghost use Rattle.std.specs.Prelude.{◌≡◌, ◌<◌, ◌+◌, length, slice_get, true, IfOk, IfSome, IsTrue};
+ghost use Rattle.std.specs.Prelude.{◌≡◌, ◌<◌, ◌+◌, length, slice_get, true, IfOk, IfSome};
 ghost use Rattle.wf_ast.specs.TypedTrees.{type_of_node};
 ghost use Rattle.wf_ast.specs.TypedInvariant.{is_numeric};
 ghost use Rattle.wf_facts_exprs.specs.Claims.{claims_in};

@@ -1,4 +1,4 @@
--- What the rules of facts and of points refuse of a package doesn't depend on the order in which its methods are told.
+-- What the rules of facts and of points refuse of a package doesn't depend on the orders in which its methods and its structs are told.
 use Rattle.std.proofs.Common.{◌≡◌, ℕ, suc, List, [], ◌∷◌, None, Some, Result, Ok, Err, refl, sym, ap, ◌∙◌}
 use Rattle.wf_text.specs.declared.place.Place.{Place}
 use Rattle.wf_text.specs.declared.rules.Refusal.{Refusal}
@@ -26,12 +26,12 @@ reached-same None f g h = refl
 reached-same (Some fs) f g h = h fs
 
 -- Packages of the same methods.
-module _ (name : List ℕ) (statuses : List (List ℕ)) (structs : List StructTree) (methods : List MethodTree) (order other : List ℕ) where
+module _ (name : List ℕ) (statuses : List (List ℕ)) (structs : List StructTree) (methods : List MethodTree) (order other struct_order struct_other : List ℕ) where
   abbrev one : PackageTree
-  one = record { package_name = name; statuses = statuses; structs = structs; methods = methods; order = order }
+  one = record { package_name = name; statuses = statuses; structs = structs; methods = methods; order = order; struct_order = struct_order }
 
   abbrev two : PackageTree
-  two = record { package_name = name; statuses = statuses; structs = structs; methods = methods; order = other }
+  two = record { package_name = name; statuses = statuses; structs = structs; methods = methods; order = other; struct_order = struct_other }
 
   module _ (m : MethodTree) where
     abbrev in_one : List (ℕ × Head) → Around
@@ -103,10 +103,10 @@ module _ (name : List ℕ) (statuses : List (List ℕ)) (structs : List StructTr
 
 pub bounds_ignore_order : BoundsIgnoreOrder
 unfolding bounds_refusal typed_package
-bounds_ignore_order p order =
+bounds_ignore_order p order struct_order =
     let t = typed_package p in
-    methods-same t.package_name t.statuses t.structs t.methods order p.order (name_of_local p) 0 t.methods
+    methods-same t.package_name t.statuses t.structs t.methods order p.order struct_order p.struct_order (name_of_local p) 0 t.methods
 
 pub points_ignore_order : PointsIgnoreOrder
 unfolding typed_package
-points_ignore_order p order r h = record { number = h.number; method = h.method; place = h.place; point = h.point; known = h.known; stands = h.stands; numbered = h.numbered; refused = h.refused }
+points_ignore_order p order struct_order r h = record { number = h.number; method = h.method; place = h.place; point = h.point; known = h.known; stands = h.stands; numbered = h.numbered; refused = h.refused }

@@ -6,9 +6,9 @@ use Rattle.wf_base.specs.declared.base_methods.BaseSig.{BaseSig}
 use Rattle.wf_base.specs.declared.base_methods.BaseSig.TheVariants as sigs
 use Rattle.wf_ast.specs.declared.types.Ty.{Ty}
 use Rattle.wf_ast.specs.declared.types.Ty.TheVariants as types
-use Rattle.wf_ast.specs.TypedTree.{Path, local, field, arg, NumTree, number, read, element, link, Arith, Order, equal, differs, SliceTree, EndTree, StatusTree, CondTree, flag, ValueTree, numeric, logical, state, elements, io, lost, Target, Simple}
+use Rattle.wf_ast.specs.TypedTree.{Path, local, field, arg, NumTree, number, read, element, link, Arith, Order, equal, differs, CondTree, flag, ValueTree, numeric, logical, state, elements, io, lost, Target}
 use Rattle.wf_ast.specs.TypedTree as typed
-use Rattle.wf_ast.specs.TypedTrees.{no_place, Sort, arithmetic, ordering, joining, sort_of, num_in, cond_in, status_in, slice_in, named, num_type, num_chain, cond_chain, first_sign, comparison, chain_of, answer_of, target_of, base_call}
+use Rattle.wf_ast.specs.TypedTrees.{no_place, OperatorKind, arithmetic, ordering, joining, operator_kind, num_in, cond_in, status_in, slice_in, named, num_type, num_chain, cond_chain, first_sign, comparison, chain_of, answer_of, target_of, base_call}
 use Rattle.wf_named.specs.declared.nodes.NamedCallee.TheVariants as callees
 use Rattle.wf_named.specs.declared.nodes.NamedPath.{NamedPath}
 use Rattle.wf_named.specs.declared.nodes.Variable.{Variable}
@@ -101,7 +101,7 @@ module _ (In : Place → Type 0) (none : In no_place) where
   comparison-in at sign differs (state a) b h k p q = (h, k, p, status-in b q)
   comparison-in at sign op a b h k p q = (h, k, number-in a p, number-in b q)
 
-  pub chain-in : (at : Place) (signs : List Place) (ty : Ty) (sort : Sort) (ts : List ValueTree)
+  pub chain-in : (at : Place) (signs : List Place) (ty : Ty) (sort : OperatorKind) (ts : List ValueTree)
       → In at → AllByRecursion In signs → AllByRecursion (ValueIsIn In) ts → ValueIsIn In (chain_of at signs ty sort ts)
   chain-in at signs ty (arithmetic op) [] h b a = tt
   chain-in at signs ty (arithmetic op) (t ∷ ts) h b a = numbers-in at op (num_type ty).bits false (num_in t) ts signs h (number-in t a.0) a.1 b
@@ -151,8 +151,8 @@ module _ (In : Place → Type 0) (none : In no_place) where
     expr-in s (tree.slice p start stop at) h = (h.3, cells-in (path_tree s p) (path-in s p h.0), end-in s start h.1, end-in s stop h.2)
     expr-in s (tree.answer c) h = answer-in s c h
     expr-in s (tree.chain op first links at) h =
-        number-or-in at (number_of s (tree.chain op first links at)) (chain_of at (signs_in links) (type_of s (tree.chain op first links at)) (sort_of op) (expr_tree s first ∷ link_trees s links)) h.2
-        (chain-in at (signs_in links) (type_of s (tree.chain op first links at)) (sort_of op) (expr_tree s first ∷ link_trees s links) h.2 (signs-in links h.1) (expr-in s first h.0, links-in s links h.1))
+        number-or-in at (number_of s (tree.chain op first links at)) (chain_of at (signs_in links) (type_of s (tree.chain op first links at)) (operator_kind op) (expr_tree s first ∷ link_trees s links)) h.2
+        (chain-in at (signs_in links) (type_of s (tree.chain op first links at)) (operator_kind op) (expr_tree s first ∷ link_trees s links) h.2 (signs-in links h.1) (expr-in s first h.0, links-in s links h.1))
     expr-in s (tree.convert e t at) h =
         number-or-in at (number_of s (tree.convert e t at)) (numeric (typed.convert at at (num_type (type_of s (tree.convert e t at))).bits (num_in (expr_tree s e)))) h.2
         (h.2, h.2, number-in (expr_tree s e) (expr-in s e h.0))

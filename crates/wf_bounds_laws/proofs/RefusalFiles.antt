@@ -55,11 +55,11 @@ points_have_files count p h r b =
     subst F (sym b.refused) at
 
 pub read_bounds_have_files : ReadBoundsHaveFiles
-read_bounds_have_files name files p read order r is =
-    bounds_have_files (length files) (resolved_package p.name p.texts (decls_of p) order)
-    (package-in (IsInFiles (length files)) p.name p.texts (decls_of p) order (decls-below (length files) (decls_of p) (decls_have_files name files p read))) r is
+read_bounds_have_files name files p read order struct_order r is =
+    bounds_have_files (length files) (resolved_package p.name p.texts (decls_of p) order struct_order)
+    (package-in (IsInFiles (length files)) p.name p.texts (decls_of p) order struct_order (decls-below (length files) (decls_of p) (decls_have_files name files p read))) r is
 
 pub read_points_have_files : ReadPointsHaveFiles
-read_points_have_files name files p read order r b =
-    points_have_files (length files) (resolved_package p.name p.texts (decls_of p) order)
-    (package-in (IsInFiles (length files)) p.name p.texts (decls_of p) order (decls-below (length files) (decls_of p) (decls_have_files name files p read))) r b
+read_points_have_files name files p read order struct_order r b =
+    points_have_files (length files) (resolved_package p.name p.texts (decls_of p) order struct_order)
+    (package-in (IsInFiles (length files)) p.name p.texts (decls_of p) order struct_order (decls-below (length files) (decls_of p) (decls_have_files name files p read))) r b

@@ -9,7 +9,7 @@ use Rattle.wf_base.specs.declared.marks.Mark.{Mark}
 use Rattle.wf_ast.specs.declared.parsed.Clause.{Clause}
 use Rattle.wf_ast.specs.declared.types.Ty.{Ty}
 use Rattle.wf_ast.specs.StatementOrder.{stands_before}
-use Rattle.wf_ast.specs.TypedTree.{NumType, NumTree, number, read, element, link, convert, length_of, asked, CondTree, ValueTree, numeric, logical, state, elements, io, lost, Target, to_number, to_element, to_flag, to_status, to_slice, to_nothing, Awaited, take_number, skip, write, Written, skip_fast, write_fast, copy_to_writer, copy_to_slice, Called, Site, Head}
+use Rattle.wf_ast.specs.TypedTree.{NumType, NumTree, number, read, element, link, convert, length_of, asked, CondTree, ValueTree, numeric, logical, state, elements, io, lost, Target, to_number, to_element, to_flag, to_status, to_slice, to_nothing, Awaited, take_number, skip, write, Written, skip_fast, write_fast, copy_to_writer, copy_to_slice, Called, Head}
 use Rattle.wf_ast.specs.TypedTree as typed
 use Rattle.wf_ast.specs.TypedPackage.{MethodTree}
 use Rattle.wf_ast.specs.WellTyped.{Context, is_word_true}

@@ -4,13 +4,13 @@ use Rattle.std.specs.List.{AllByRecursion}
 use Rattle.wf_text.specs.declared.place.Place.{Place}
 use Rattle.wf_base.specs.BaseTable.{row_of}
 use Rattle.wf_ast.specs.declared.operators.Op.{Op}
-use Rattle.wf_ast.specs.TypedTree.{ValueTree, Target, Simple, Site, Block, end}
+use Rattle.wf_ast.specs.TypedTree.{Target, Simple, Site, Block, end}
 use Rattle.wf_ast.specs.TypedTree as typed
-use Rattle.wf_ast.specs.TypedTrees.{no_place, sort_of, cond_in, answer_of}
+use Rattle.wf_ast.specs.TypedTrees.{no_place, operator_kind, cond_in, answer_of}
 use Rattle.wf_ast.specs.WellTyped.{is_pure}
 use Rattle.wf_named.specs.declared.nodes.NamedCallee.TheVariants as callees
 use Rattle.wf_named.specs.NamedTree as tree
-use Rattle.wf_named.specs.NamedTree.{NamedExprTree, NamedPartTree, NamedArgTrees, NamedCallTree, NamedTargetTree, NamedClauseTrees, LetterTrees, NamedViaTree, NamedStmtTree, NamedBlockTree, NamedArmTrees, NamedMethodTree, NamedPackageTree}
+use Rattle.wf_named.specs.NamedTree.{NamedExprTree, NamedPartTree, NamedCallTree, NamedTargetTree, NamedClauseTrees, LetterTrees, NamedViaTree, NamedStmtTree, NamedBlockTree, NamedArmTrees, NamedMethodTree, NamedPackageTree}
 use Rattle.wf_types_rules.specs.declared.settings.Setting.{Setting}
 use Rattle.wf_types_rules.specs.DeclaredTypes.{in_method}
 use Rattle.wf_types_rules.specs.Judgements.{closing_brace}
@@ -50,7 +50,7 @@ module _ (In : Place → Type 0) (none : In no_place) (s : Setting) where
 
   update-in : (t : NamedTargetTree) (op : Op) (sign : Place) (e : NamedExprTree) → from.TargetIsIn In t → In sign → from.ExprIsIn In e → ValueIsIn In (update_tree s t op sign e)
   update-in t op sign e h k i =
-      chain-in In none sign (sign ∷ []) (type_of_update s t) (sort_of op) (written_to s t ∷ (expr_tree s e ∷ [])) k (k, tt) (written-in t h, (expr-in In none s e i, tt))
+      chain-in In none sign (sign ∷ []) (type_of_update s t) (operator_kind op) (written_to s t ∷ (expr_tree s e ∷ [])) k (k, tt) (written-in t h, (expr-in In none s e i, tt))
 
   assign-in : (t : NamedTargetTree) (op : Option Op) (sign : Place) (e : NamedExprTree) → from.TargetIsIn In t → In sign → from.ExprIsIn In e → SimpleIsIn In (assign_tree s t op sign e)
   assign-in t (Some op) sign e h k i = (target-in t h, update-in t op sign e h k i)

@@ -28,12 +28,12 @@ TypingKeepsPoints =
     (named : NamedParts) (typed : TypedNodes) → IsElaborated named typed
     → (found : Option Refusal) → Decides (HasTooMany (package_of typed)) found → Decides (BreaksPoints (named_package named)) found
 
--- In which order a package tells its methods makes no difference.
+-- In which orders a package tells its methods and its structs makes no difference.
 abbrev pub BoundsIgnoreOrder : Type 0
-BoundsIgnoreOrder = (p : NamedPackageTree) (order : List ℕ) → bounds_refusal (record p { order = order }) ≡ bounds_refusal p
+BoundsIgnoreOrder = (p : NamedPackageTree) (order struct_order : List ℕ) → bounds_refusal (record p { order = order; struct_order = struct_order }) ≡ bounds_refusal p
 
 abbrev pub PointsIgnoreOrder : Type 0
-PointsIgnoreOrder = (p : NamedPackageTree) (order : List ℕ) (r : Refusal) → BreaksPoints (record p { order = order }) r → BreaksPoints p r
+PointsIgnoreOrder = (p : NamedPackageTree) (order struct_order : List ℕ) (r : Refusal) → BreaksPoints (record p { order = order; struct_order = struct_order }) r → BreaksPoints p r
 
 -- A place in one of so many files.
 abbrev pub IsInFiles : (count : ℕ) → Place → Type 0
@@ -54,13 +54,13 @@ PointsHaveFiles = (count : ℕ) (p : NamedPackageTree) → PackageIsIn (IsInFile
 abbrev pub ReadBoundsHaveFiles : Type 0
 ReadBoundsHaveFiles =
     (name : List ℕ) (files : List (List ℕ)) (p : Parsed) → IsParsed name files p
-    → (order : List ℕ) (r : Refusal) → bounds_refusal (resolved_package p.name p.texts (decls_of p) order) ≡ Some r → r.at.file < length files
+    → (order struct_order : List ℕ) (r : Refusal) → bounds_refusal (resolved_package p.name p.texts (decls_of p) order struct_order) ≡ Some r → r.at.file < length files
 
 abbrev pub ReadPointsHaveFiles : Type 0
 ReadPointsHaveFiles =
     (name : List ℕ) (files : List (List ℕ)) (p : Parsed) → IsParsed name files p
-    → (order : List ℕ) (r : Refusal) → BreaksPoints (resolved_package p.name p.texts (decls_of p) order) r → r.at.file < length files
+    → (order struct_order : List ℕ) (r : Refusal) → BreaksPoints (resolved_package p.name p.texts (decls_of p) order struct_order) r → r.at.file < length files
 
--- Of the methods with too many points one decides, or no method has too many.
+-- Of the methods with too many points there is a first refusal, or no method has too many.
 abbrev pub PointsAreDecided : Type 0
 PointsAreDecided = (p : NamedPackageTree) → (found : Option Refusal) × Decides (BreaksPoints p) found

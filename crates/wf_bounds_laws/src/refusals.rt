@@ -28,7 +28,7 @@ pub fn a_refusal_has_its_file()
     ensures read_points { ReadPointsHaveFiles }
 {}
 
-/// Of the methods with too many points one decides, or no method has too many.
+/// Of the methods with too many points there is a first refusal, or no method has too many.
 pub fn points_are_decided()
     ensures { PointsAreDecided }
 {}

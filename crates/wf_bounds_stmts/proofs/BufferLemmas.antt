@@ -10,7 +10,7 @@ use Rattle.wf_ast.specs.declared.typed_code.Expr.{Expr}
 use Rattle.wf_ast.specs.declared.typed_code.Expr.TheVariants as exprs
 use Rattle.wf_ast.specs.declared.typed_nodes.TypedNodes.{TypedNodes}
 use Rattle.wf_ast.specs.TypedTree.{local, field, arg, Order, equal, differs, ValueTree, state}
-use Rattle.wf_ast.specs.TypedTrees.{Sort, arithmetic, ordering, joining, sort_of, comparison, chain_of, first_sign, named, answer_of, made, made_or_number, tree_of, type_of_node, constant_of_node, place_of_node, signs_of_node}
+use Rattle.wf_ast.specs.TypedTrees.{OperatorKind, arithmetic, ordering, joining, operator_kind, comparison, chain_of, first_sign, named, answer_of, made, made_or_number, tree_of, type_of_node, constant_of_node, place_of_node, signs_of_node}
 use Rattle.wf_bounds_stmts.specs.Calls.{handed_thing}
 use Rattle.wf_bounds_stmts.specs.Nodes.{buffer_named, constant_or_buffer}
 
@@ -19,7 +19,7 @@ comparison-handed at sign equal (state a) b = refl
 comparison-handed at sign differs (state a) b = refl
 comparison-handed at sign op a b = refl
 
-chain-handed : (look : ExprId → ValueTree) (at : Place) (signs : List Place) (ty : Ty) (sort : Sort) (es : List ExprId) → handed_thing (chain_of at signs ty sort (map look es)) ≡ None
+chain-handed : (look : ExprId → ValueTree) (at : Place) (signs : List Place) (ty : Ty) (sort : OperatorKind) (es : List ExprId) → handed_thing (chain_of at signs ty sort (map look es)) ≡ None
 chain-handed look at signs ty (arithmetic op) [] = refl
 chain-handed look at signs ty (arithmetic op) (e ∷ es) = refl
 chain-handed look at signs ty (joining both) [] = refl
@@ -102,7 +102,7 @@ kind-handed look at signs ty (exprs.Field y) = field-handed at ty y.0 ∙ sym (b
 kind-handed look at signs ty (exprs.Arg y) = arg-handed at ty y.0
 kind-handed look at signs ty (exprs.Index base index) = sym (buffer-of-other ty (exprs.Index base index) (λ n e. cc (e)))
 kind-handed look at signs ty (exprs.Cut base from to) = sym (buffer-of-other ty (exprs.Cut base from to) (λ n e. cc (e)))
-kind-handed look at signs ty (exprs.Chain op parts) = chain-handed look at signs ty (sort_of op) parts ∙ sym (buffer-of-other ty (exprs.Chain op parts) (λ n e. cc (e)))
+kind-handed look at signs ty (exprs.Chain op parts) = chain-handed look at signs ty (operator_kind op) parts ∙ sym (buffer-of-other ty (exprs.Chain op parts) (λ n e. cc (e)))
 kind-handed look at signs ty (exprs.Convert of to) = sym (buffer-of-other ty (exprs.Convert of to) (λ n e. cc (e)))
 kind-handed look at signs ty (exprs.Not of) = sym (buffer-of-other ty (exprs.Not of) (λ n e. cc (e)))
 kind-handed look at signs ty (exprs.Base on sig) = answer-handed at sig (look on) ∙ sym (buffer-of-other ty (exprs.Base on sig) (λ n e. cc (e)))

@@ -12,7 +12,7 @@ use Rattle.wf_ast.specs.declared.typed_code.Expr.{Expr}
 use Rattle.wf_ast.specs.declared.typed_code.Expr.TheVariants as exprs
 use Rattle.wf_ast.specs.declared.typed_nodes.TypedNodes.{TypedNodes}
 use Rattle.wf_ast.specs.TypedTree.{local, field, arg, Arith, Order, equal, differs, NumTree, link, CondTree, junction, ValueTree, state}
-use Rattle.wf_ast.specs.TypedTrees.{Sort, arithmetic, ordering, joining, sort_of, num_in, cond_in, num_chain, cond_chain, comparison, chain_of, first_sign, named, answer_of, made, made_or_number, tree_of, type_of_node, constant_of_node, place_of_node, signs_of_node}
+use Rattle.wf_ast.specs.TypedTrees.{OperatorKind, arithmetic, ordering, joining, operator_kind, num_in, cond_in, num_chain, cond_chain, comparison, chain_of, first_sign, named, answer_of, made, made_or_number, tree_of, type_of_node, constant_of_node, place_of_node, signs_of_node}
 use Rattle.wf_ast.specs.TypedInvariant.{is_numeric, is_logical, is_state, is_list, is_io, chain_fits, kind_fits, node_fits}
 use Rattle.wf_ast.specs.WellTyped.{same_mark}
 use Rattle.wf_bounds_stmts.specs.Requirements.{place_of, place_of_number, place_of_condition}
@@ -32,7 +32,7 @@ comparison-place at sign equal (state a) b = refl
 comparison-place at sign differs (state a) b = refl
 comparison-place at sign op a b = refl
 
-chain-place : (nodes : TypedNodes) (look : ExprId → ValueTree) (at : Place) (signs : List Place) (ty : Ty) (sort : Sort) (es : List ExprId) → chain_fits nodes sort es ty ≡ true
+chain-place : (nodes : TypedNodes) (look : ExprId → ValueTree) (at : Place) (signs : List Place) (ty : Ty) (sort : OperatorKind) (es : List ExprId) → chain_fits nodes sort es ty ≡ true
     → place_of (chain_of at signs ty sort (map look es)) ≡ at
 chain-place nodes look at signs ty (arithmetic op) [] h = absurd (cc (h))
 chain-place nodes look at signs ty (arithmetic op) (e ∷ []) h = absurd (cc (h))
@@ -112,7 +112,7 @@ kind-place nodes look at signs ty (exprs.Field x) h = field-place at ty x.0 h
 kind-place nodes look at signs ty (exprs.Arg x) h = arg-place at ty x.0 h
 kind-place nodes look at signs ty (exprs.Index base index) h = refl
 kind-place nodes look at signs ty (exprs.Cut base from to) h = refl
-kind-place nodes look at signs ty (exprs.Chain op parts) h = chain-place nodes look at signs ty (sort_of op) parts h
+kind-place nodes look at signs ty (exprs.Chain op parts) h = chain-place nodes look at signs ty (operator_kind op) parts h
 kind-place nodes look at signs ty (exprs.Convert of to) h = refl
 kind-place nodes look at signs ty (exprs.Not of) h = refl
 kind-place nodes look at signs ty (exprs.Base on sig) h = answer-place at sig (look on) (both-of h).0

@@ -10,7 +10,7 @@ use Rattle.wf_ast.specs.declared.typed_nodes.TypedNodes.{TypedNodes}
 use Rattle.wf_ast.specs.TypedTree.{Arith, NumTree, number, read, element, link, convert, length_of, asked, slice, array, cut, status, held, no_status, truth, flag, compare, same_status, junction, negation, closed, has_category, ValueTree, numeric, logical, state, elements, io, lost}
 use Rattle.wf_ast.specs.declared.operators.Op.{Op}
 use Rattle.wf_ast.specs.declared.typed_code.Expr.TheVariants as exprs
-use Rattle.wf_ast.specs.TypedTrees.{Sort, arithmetic, ordering, joining, sort_of, num_in, num_type, num_chain, chain_of, target_of, type_of_node, constant_of_node}
+use Rattle.wf_ast.specs.TypedTrees.{OperatorKind, arithmetic, ordering, joining, operator_kind, num_in, num_type, num_chain, chain_of, target_of, type_of_node, constant_of_node}
 use Rattle.wf_ast.specs.TypedInvariant.{chain_fits, node_fits, parts_below, is_expr, is_numeric, is_logical}
 use Rattle.wf_ast.specs.NodeKinds.{is_number_at}
 use Rattle.wf_facts_exprs.specs.Claims.{Claim}
@@ -26,7 +26,7 @@ module _ (x : NumTree) where
   link-step at sign op bits joined a b = refl
 
   module _ (nodes : TypedNodes) (look : ExprId → ValueTree) (at : Place) (ty : Ty) (num : is_numeric ty ≡ true) where
-    pub chain-two : (signs : List Place) (sort : Sort) (es : List ExprId) (d : ExprId) → chain_fits nodes sort es ty ≡ true → 2 ≤ length es → length es < 3
+    pub chain-two : (signs : List Place) (sort : OperatorKind) (es : List ExprId) (d : ExprId) → chain_fits nodes sort es ty ≡ true → 2 ≤ length es → length es < 3
         → step_of_two x sort (num_in (look (slice_index_or es 0 d))) (number_in (num_in (look (slice_index_or es 1 d)))) ≡ step_of x (num_in (chain_of at signs ty sort (map look es)))
     chain-two [] (arithmetic op) (e ∷ f ∷ []) d h k l = link-step at at op (num_type ty).bits false (num_in (look e)) (num_in (look f))
     chain-two (s ∷ signs) (arithmetic op) (e ∷ f ∷ []) d h k l = link-step at s op (num_type ty).bits false (num_in (look e)) (num_in (look f))
@@ -49,7 +49,7 @@ module _ (x : NumTree) (held : is_read x ≡ true) (at : Place) (op : Arith) (bi
   more sign joined a b t (u ∷ us) (s ∷ signs) = more s true (link at sign op bits joined a b) (num_in t) u us signs
 
 module _ (x : NumTree) (held : is_read x ≡ true) (nodes : TypedNodes) (look : ExprId → ValueTree) (at : Place) (ty : Ty) (num : is_numeric ty ≡ true) where
-  pub chain-more : (signs : List Place) (sort : Sort) (es : List ExprId) → chain_fits nodes sort es ty ≡ true → 3 ≤ length es → None ≡ step_of x (num_in (chain_of at signs ty sort (map look es)))
+  pub chain-more : (signs : List Place) (sort : OperatorKind) (es : List ExprId) → chain_fits nodes sort es ty ≡ true → 3 ≤ length es → None ≡ step_of x (num_in (chain_of at signs ty sort (map look es)))
   chain-more [] (arithmetic op) (e ∷ f ∷ g ∷ es) h k = sym (more x held at op (num_type ty).bits at false (num_in (look e)) (num_in (look f)) (look g) (map look es) [])
   chain-more (s ∷ signs) (arithmetic op) (e ∷ f ∷ g ∷ es) h k = sym (more x held at op (num_type ty).bits s false (num_in (look e)) (num_in (look f)) (look g) (map look es) signs)
   chain-more signs (arithmetic op) (e ∷ f ∷ []) h k = absurd (omega (arith, k))
@@ -64,7 +64,7 @@ chain-numbers nodes e (Some n) op parts is none h fits below = absurd (cc (none)
 chain-numbers nodes e None op parts is none h fits below =
     let both = and_parts (is_expr nodes e) _ h in
     let P : Option ℕ → Type 0 = λ k. node_fits nodes (type_of_node nodes e.0) k (exprs.Chain op parts) ≡ true in
-    (is-arith nodes e.0 (type_of_node nodes e.0) (sort_of op) parts (lt_from _ _ both.0) both.1 (subst P (sym is) fits) below).numbers
+    (is-arith nodes e.0 (type_of_node nodes e.0) (operator_kind op) parts (lt_from _ _ both.0) both.1 (subst P (sym is) fits) below).numbers
 
 -- What stands after an assignment with an operator, by what is written.
 pub stepped-by : (fs : List Claim) (w v : ValueTree) (op : Arith) → assigned fs (target_of w) (Some op) v ≡ stepped_or_dropped fs (number_written (target_of w)) (written_by (target_of w)) (step_in (num_in w) v)

@@ -10,7 +10,7 @@ use Rattle.wf_ast.specs.declared.typed_code.Expr.{Expr}
 use Rattle.wf_ast.specs.declared.typed_code.Expr.TheVariants as exprs
 use Rattle.wf_ast.specs.declared.typed_nodes.TypedNodes.{TypedNodes}
 use Rattle.wf_ast.specs.TypedTree.{local, field, arg, Arith, Order, equal, differs, NumTree, number, element, link, SliceTree, status, CondTree, truth, junction, ValueTree, numeric, logical, state, io, lost, to_nothing}
-use Rattle.wf_ast.specs.TypedTrees.{Sort, arithmetic, ordering, joining, sort_of, num_in, cond_in, num_type, num_chain, cond_chain, comparison, chain_of, first_sign, named, answer_of, made, made_or_number, target_of, tree_of, type_of_node, constant_of_node, place_of_node, signs_of_node}
+use Rattle.wf_ast.specs.TypedTrees.{OperatorKind, arithmetic, ordering, joining, operator_kind, num_in, cond_in, num_type, num_chain, cond_chain, comparison, chain_of, first_sign, named, answer_of, made, made_or_number, target_of, tree_of, type_of_node, constant_of_node, place_of_node, signs_of_node}
 use Rattle.wf_ast.specs.TypedInvariant.{is_numeric, chain_fits, kind_fits, node_fits}
 use Rattle.wf_bounds_stmts.specs.Targets.{taken_by, written_by, number_written}
 use Rattle.wf_bounds_stmts.specs.Nodes.{node_written, constant_or_written, Seen}
@@ -30,7 +30,7 @@ comparison-seen at sign equal (state a) b = refl
 comparison-seen at sign differs (state a) b = refl
 comparison-seen at sign op a b = refl
 
-chain-seen : (nodes : TypedNodes) (look : ExprId → ValueTree) (at : Place) (signs : List Place) (ty : Ty) (sort : Sort) (es : List ExprId) → chain_fits nodes sort es ty ≡ true
+chain-seen : (nodes : TypedNodes) (look : ExprId → ValueTree) (at : Place) (signs : List Place) (ty : Ty) (sort : OperatorKind) (es : List ExprId) → chain_fits nodes sort es ty ≡ true
     → target_of (chain_of at signs ty sort (map look es)) ≡ to_nothing
 chain-seen nodes look at signs ty (arithmetic op) [] h = absurd (cc (h))
 chain-seen nodes look at signs ty (arithmetic op) (e ∷ []) h = absurd (cc (h))
@@ -130,7 +130,7 @@ kind-seen nodes look at signs ty (exprs.Field x) h = field-seen at ty x.0
 kind-seen nodes look at signs ty (exprs.Arg x) h = arg-seen at ty x.0
 kind-seen nodes look at signs ty (exprs.Index base index) h = element-seen at ty _ (num_in (look index)) base index (both-first _ _ h)
 kind-seen nodes look at signs ty (exprs.Cut base from to) h = no-target _ ty refl
-kind-seen nodes look at signs ty (exprs.Chain op parts) h = no-target _ ty (chain-seen nodes look at signs ty (sort_of op) parts h)
+kind-seen nodes look at signs ty (exprs.Chain op parts) h = no-target _ ty (chain-seen nodes look at signs ty (operator_kind op) parts h)
 kind-seen nodes look at signs ty (exprs.Convert of to) h = no-target _ ty refl
 kind-seen nodes look at signs ty (exprs.Not of) h = no-target _ ty refl
 kind-seen nodes look at signs ty (exprs.Base on sig) h = no-target _ ty (answer-seen at sig (look on))

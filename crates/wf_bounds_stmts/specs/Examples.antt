@@ -42,7 +42,7 @@ variable name ty = record { name = name; ty = ty }
 -- A package of one struct with one method.
 abbrev pub with_method : (fields : List Variable) → Mark → (args locals : List Variable) → (gives : Option Ty) → Block → PackageTree
 with_method fields mark args locals gives body =
-    record { package_name = codes "s"; statuses = base_statuses; structs = record { name = codes "s"; public = true; fields = fields } ∷ []; methods = record { name = codes "f"; of = 0; public = true; mark = mark; args = args; locals = locals; gives = gives; body = body } ∷ []; order = 0 ∷ [] }
+    record { package_name = codes "s"; statuses = base_statuses; structs = record { name = codes "s"; public = true; fields = fields } ∷ []; methods = record { name = codes "f"; of = 0; public = true; mark = mark; args = args; locals = locals; gives = gives; body = body } ∷ []; order = 0 ∷ []; struct_order = 0 ∷ [] }
 
 -- What is refused, where the names of locals stand at this place.
 abbrev pub refusal_of : (local_at : Place) → PackageTree → Option Refusal
@@ -232,7 +232,7 @@ parse_loop most =
 
 abbrev pub parsing : (most : ℕ) → PackageTree
 parsing most =
-    record { package_name = codes "demo"; statuses = base_statuses ++ (codes "#demo: not a digit" ∷ codes "#demo: too large" ∷ []); structs = record { name = codes "parser"; public = true; fields = variable (codes "val") word_ty ∷ [] } ∷ []; methods = record { name = codes "value"; of = 0; public = true; mark = Pure; args = []; locals = []; gives = Some word_ty; body = plain (site 12 7 5) (give_back (Some (numeric (val 7 12)))) end } ∷ record { name = codes "parse"; of = 0; public = true; mark = Coroutine; args = variable (codes "src") types.Reader ∷ []; locals = variable (codes "c") byte_ty ∷ []; gives = None; body = loop (site 11 11 5) (record { cond = truth (on 11 11) true; clauses = []; is_left = false; close = on 27 5 }) (parse_loop most) end } ∷ []; order = 0 ∷ 1 ∷ [] }
+    record { package_name = codes "demo"; statuses = base_statuses ++ (codes "#demo: not a digit" ∷ codes "#demo: too large" ∷ []); structs = record { name = codes "parser"; public = true; fields = variable (codes "val") word_ty ∷ [] } ∷ []; methods = record { name = codes "value"; of = 0; public = true; mark = Pure; args = []; locals = []; gives = Some word_ty; body = plain (site 12 7 5) (give_back (Some (numeric (val 7 12)))) end } ∷ record { name = codes "parse"; of = 0; public = true; mark = Coroutine; args = variable (codes "src") types.Reader ∷ []; locals = variable (codes "c") byte_ty ∷ []; gives = None; body = loop (site 11 11 5) (record { cond = truth (on 11 11) true; clauses = []; is_left = false; close = on 27 5 }) (parse_loop most) end } ∷ []; order = 0 ∷ 1 ∷ []; struct_order = 0 ∷ [] }
 
 -- What is known of a digit before line 19, where it stands for its character.
 abbrev pub about_the_digit : List Claim
@@ -279,7 +279,7 @@ method name mark args locals gives body = record { name = name; of = 0; public =
 
 abbrev pub calling : (locals : List Variable) → Block → PackageTree
 calling locals body =
-    record { package_name = codes "c"; statuses = base_statuses; structs = record { name = codes "c"; public = true; fields = variable (codes "n") (bounded 9) ∷ [] } ∷ []; methods = method (codes "sum") Pure (variable (codes "a") (bounded 9) ∷ variable (codes "b") (bounded 9) ∷ []) [] (Some (bounded 18)) (plain (site 0 5 5) (give_back (Some (numeric (link (on 5 19) (on 5 19) plus 32 false (read (on 5 12) (bounded_type 9) (arg 0)) (read (on 5 21) (bounded_type 9) (arg 1)))))) end) ∷ method (codes "clear") Impure [] [] None (plain (site 1 8 5) (assign (to_number (on 8 5) (bounded_type 9) (field 0)) None (numeric (number (on 8 14) 0))) end) ∷ method (codes "f") Impure (variable (codes "k") (bounded 9) ∷ variable (codes "m") word_ty ∷ []) locals (Some (bounded 9)) body ∷ []; order = 0 ∷ 1 ∷ 2 ∷ [] }
+    record { package_name = codes "c"; statuses = base_statuses; structs = record { name = codes "c"; public = true; fields = variable (codes "n") (bounded 9) ∷ [] } ∷ []; methods = method (codes "sum") Pure (variable (codes "a") (bounded 9) ∷ variable (codes "b") (bounded 9) ∷ []) [] (Some (bounded 18)) (plain (site 0 5 5) (give_back (Some (numeric (link (on 5 19) (on 5 19) plus 32 false (read (on 5 12) (bounded_type 9) (arg 0)) (read (on 5 21) (bounded_type 9) (arg 1)))))) end) ∷ method (codes "clear") Impure [] [] None (plain (site 1 8 5) (assign (to_number (on 8 5) (bounded_type 9) (field 0)) None (numeric (number (on 8 14) 0))) end) ∷ method (codes "f") Impure (variable (codes "k") (bounded 9) ∷ variable (codes "m") word_ty ∷ []) locals (Some (bounded 9)) body ∷ []; order = 0 ∷ 1 ∷ 2 ∷ []; struct_order = 0 ∷ [] }
 
 abbrev returns_n : (n line : ℕ) → Block
 returns_n n line = plain (site n line 5) (give_back (Some (numeric (n_at line 12)))) end

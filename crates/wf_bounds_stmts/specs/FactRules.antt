@@ -81,7 +81,7 @@ abbrev pub branch_fronts : List Claim → List CondTree → List (List Claim)
 branch_fronts fs [] = fs ∷ []
 branch_fronts fs (c ∷ cs) = with_condition fs c true ∷ branch_fronts (with_condition fs c false) cs
 
--- After it stand the facts of the first block that goes on which also stand in every other that does.
+-- After it stand, of the facts of the first block that goes on, those that all the others that do have too.
 abbrev pub in_all : List Claim → List Known → List Claim
 in_all fs [] = fs
 in_all fs (None ∷ ends) = in_all fs ends

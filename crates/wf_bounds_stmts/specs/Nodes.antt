@@ -7,7 +7,7 @@ use Rattle.wf_ast.specs.declared.types.Ty.TheVariants as types
 use Rattle.wf_ast.specs.declared.typed_code.Expr.{Expr}
 use Rattle.wf_ast.specs.declared.typed_code.Expr.TheVariants as exprs
 use Rattle.wf_ast.specs.TypedTree.{NumTree, read, ValueTree, numeric}
-use Rattle.wf_ast.specs.TypedTrees.{Sort, arithmetic, num_in, target_of}
+use Rattle.wf_ast.specs.TypedTrees.{OperatorKind, arithmetic, num_in, target_of}
 use Rattle.wf_ast.specs.Same.{same_num}
 use Rattle.wf_facts_exprs.specs.Claims.{Claim}
 use Rattle.wf_facts.specs.declared.changes.Change.{Change}
@@ -75,11 +75,11 @@ abbrev pub step_in : (variable : NumTree) → ValueTree → Option Change
 step_in x (numeric t) = step_of x t
 step_in x v = None
 
-abbrev pub step_by_sort : Sort → ℕ → Option Change
+abbrev pub step_by_sort : OperatorKind → ℕ → Option Change
 step_by_sort (arithmetic op) k = step_by op k
 step_by_sort sort k = None
 
-abbrev pub step_of_two : (variable : NumTree) → Sort → (a : NumTree) → (right : Option ℕ) → Option Change
+abbrev pub step_of_two : (variable : NumTree) → OperatorKind → (a : NumTree) → (right : Option ℕ) → Option Change
 step_of_two x sort a None = None
 step_of_two x sort a (Some k) = if same_num x a then step_by_sort sort k else None
 

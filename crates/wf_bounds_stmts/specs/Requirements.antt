@@ -79,8 +79,8 @@ abbrev pub range_in : List Claim → ValueTree → Option Range
 range_in fs (numeric t) = Some (range_of fs t)
 range_in fs t = None
 
--- Values that are handed over, each with the type of numbers that takes it, if one does. They are looked at in written order, whatever order they
--- are declared in: of those that are refused, the one that stands first decides.
+-- Values that are handed over, each with the type of numbers that takes it, if one does. They are looked at in written order,
+-- whatever order they are declared in: of those that are refused, the one that stands first is told.
 
 abbrev pub Handed : Type 0
 Handed = Option NumType × ValueTree

@@ -81,7 +81,7 @@ assigned fs (to_number at of path) None (numeric t) = known_equal (without (thin
 assigned fs (to_number at of path) (Some op) (numeric t) = stepped fs (thing_at path) (step_of (read at of path) t)
 assigned fs target op v = unwritten target fs
 
--- What a call answers goes to its target: the target's index is checked under the list that the call leaves, and all numbers
+-- What a call answers goes to its target: its index is checked by what is known after the call, and all numbers
 -- that the call may answer have to lie in the target's type. `at` is the call's place.
 abbrev pub holds_all : Option NumType → (answers : Option NumType) → Bool
 holds_all (Some of) (Some answers) = nat_le of.low answers.low && nat_le answers.high of.high

@@ -1,6 +1,6 @@
 // What calls answer, and the targets that it goes to.
 
-ghost use Rattle.std.specs.Prelude.{◌≡◌, None, IsTrue, IfSome};
+ghost use Rattle.std.specs.Prelude.{◌≡◌, None, IsTrue};
 ghost use Rattle.wf_ast.specs.TypedTrees.{optional_target, target_of, tree_of};
 ghost use Rattle.wf_ast.specs.TypedInvariant.{is_expr, is_optional_expr};
 ghost use Rattle.wf_facts_exprs.specs.Claims.{claims_in, AreFacts};

@@ -40,13 +40,11 @@ pub(crate) fn assert(
     ensures answers { Answers t.now at (claim_refusal (claims_in t.now facts.old.list) at (node_cond t.now goal) (axiom_made t.now (tree_of t.now) by.now)) (with_condition (claims_in t.now facts.old.list) (node_cond t.now goal) true) result facts.new }
 {
     check_assertion(t, facts.as_slice(), at, goal, by)?;
-    match facts.add_condition(t, goal, true) {
-        Ok(()) => {
-            let _few = facts.len();
-            Ok(())
-        }
-        Err(_) => Err(Refusal { rule: Rule::L8, at }),
-    }
+    facts
+        .add_condition(t, goal, true)
+        .map_err(|_| Refusal { rule: Rule::L8, at })?;
+    let _few = facts.len();
+    Ok(())
 }
 
 /// Checks what an assertion requires.
@@ -128,13 +126,11 @@ fn check_matched(
     requires given_fine { given_refusal (claims_in t.now facts.now) (given_trees t.now given.now) ≡ None }
     ensures { result ≡ unless_refused (matched_refusal (claims_in t.now facts.now) text_at a (premises_for a (node_cond t.now goal) (given_trees t.now given.now))) tt }
 {
-    match premises(a, t, goal, given) {
-        Ok(p) => check_premises(t, facts, text_at, a, p),
-        Err(_) => Err(Refusal {
-            rule: Rule::B6,
-            at: text_at,
-        }),
-    }
+    let p = premises(a, t, goal, given).map_err(|_| Refusal {
+        rule: Rule::B6,
+        at: text_at,
+    })?;
+    check_premises(t, facts, text_at, a, p)
 }
 
 // All premises are given, in order.

@@ -111,11 +111,7 @@ pub(crate) fn assign(
     check_assigned(t, facts.as_slice(), target, value)?;
     let x = written(t, target);
     drop_written(t, facts, x);
-    match know_written(t, facts, target, x, value) {
-        Ok(()) => {
-            let _few = facts.len();
-            Ok(())
-        }
-        Err(_) => Err(Refusal { rule: Rule::L8, at }),
-    }
+    know_written(t, facts, target, x, value).map_err(|_| Refusal { rule: Rule::L8, at })?;
+    let _few = facts.len();
+    Ok(())
 }

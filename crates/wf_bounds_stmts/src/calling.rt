@@ -3,7 +3,7 @@
 ghost use Rattle.std.specs.Prelude.{◌≡◌, ◌<◌, length, map, IsTrue, None};
 ghost use Rattle.std.specs.List.{list_all};
 ghost use Rattle.wf_text.specs.declared.rules.Rule.TheVariants.{B8};
-ghost use Rattle.wf_ast.specs.TypedTrees.{optional_target, tree_of, type_of_node, constant_of_node};
+ghost use Rattle.wf_ast.specs.TypedTrees.{optional_target, tree_of};
 ghost use Rattle.wf_ast.specs.TypedInvariant.{is_expr, is_optional_expr};
 ghost use Rattle.wf_ast.specs.WellTyped.{is_pure as pure_mark, is_coroutine as coroutine_mark};
 ghost use Rattle.wf_facts_exprs.specs.Claims.{claims_in};

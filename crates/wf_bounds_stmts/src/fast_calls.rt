@@ -1,10 +1,10 @@
 // Base methods that take or append bytes without suspending, which need these bytes or their room.
 
-ghost use Rattle.std.specs.Prelude.{◌≡◌, [], ◌∷◌, None, true, IsTrue};
+ghost use Rattle.std.specs.Prelude.{◌≡◌, None, true, IsTrue};
 ghost use Rattle.wf_text.specs.declared.rules.Rule.TheVariants.{B8, B9};
 ghost use Rattle.wf_base.specs.declared.widths.Width.TheVariants.{W8, W32};
 ghost use Rattle.wf_ast.specs.declared.types.Ty.TheVariants as types;
-ghost use Rattle.wf_ast.specs.TypedTree.{skip_fast as skip_tree, write_fast as write_tree, numeric};
+ghost use Rattle.wf_ast.specs.TypedTree.{skip_fast as skip_tree, write_fast as write_tree};
 ghost use Rattle.wf_ast.specs.TypedTrees.{io_in, optional_target, tree_of, type_of_node};
 ghost use Rattle.wf_ast.specs.TypedInvariant.{is_expr, is_io, is_optional_expr};
 ghost use Rattle.wf_ast.specs.NodeKinds.{is_number_at, node_number};
@@ -14,7 +14,7 @@ ghost use Rattle.wf_facts_exprs.specs.Demands.{demand, or_else, side_refusal, un
 ghost use Rattle.wf_facts.specs.IndexedFacts.{IsOver};
 ghost use Rattle.wf_bounds_stmts.specs.Requirements.{all_handed};
 ghost use Rattle.wf_bounds_stmts.specs.Targets.{answer_refusal, unwritten, written_by};
-ghost use Rattle.wf_bounds_stmts.specs.Calls.{all_of as numbers_of, handed_to_written, left_by_written, perform_refusal, performed, premise_refusal};
+ghost use Rattle.wf_bounds_stmts.specs.Calls.{handed_to_written, perform_refusal, performed, premise_refusal};
 ghost use Rattle.wf_bounds_stmts.specs.Outcomes.{MayBeDropped, Settles};
 
 use crate::answers::{check_answer, drop_target};

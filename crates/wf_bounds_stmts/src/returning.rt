@@ -1,6 +1,6 @@
 // What a method gives back.
 
-ghost use Rattle.std.specs.Prelude.{◌≡◌, IsTrue, option_and_then, option_map};
+ghost use Rattle.std.specs.Prelude.{◌≡◌, IsTrue, option_map};
 ghost use Rattle.wf_ast.specs.TypedTrees.{tree_of};
 ghost use Rattle.wf_ast.specs.TypedInvariant.{is_optional_expr};
 ghost use Rattle.wf_facts_exprs.specs.Claims.{claims_in, AreFacts};

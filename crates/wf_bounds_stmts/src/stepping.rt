@@ -5,7 +5,7 @@ ghost use Rattle.std.specs.List.{list_all};
 ghost use Rattle.wf_text.specs.declared.place.Place.{Place};
 ghost use Rattle.wf_ast.specs.declared.types.Ty.{Ty};
 ghost use Rattle.wf_ast.specs.TypedTree.{Arith};
-ghost use Rattle.wf_ast.specs.TypedTrees.{chain_of, num_in, sort_of, target_of, tree_of};
+ghost use Rattle.wf_ast.specs.TypedTrees.{chain_of, num_in, operator_kind, target_of, tree_of};
 ghost use Rattle.wf_ast.specs.TypedInvariant.{chain_fits, is_expr, is_numeric};
 ghost use Rattle.wf_ast.specs.Same.{same_num};
 ghost use Rattle.wf_ast.specs.NodeKinds.{is_number_at, node_number};
@@ -98,7 +98,7 @@ fn step_by_chain(t: &Typed, target: ExprId, op: Op, parts: &[ExprId]) -> Option<
     requires target { is_number_at t.now target ≡ true }
     requires variable { is_read (node_number t.now target) ≡ true }
     requires numbers { IsTrue (list_all (is_number_at t.now) parts.now) }
-    ensures { (at : Place) (signs : List Place) (ty : Ty) → is_numeric ty ≡ true → chain_fits t.now (sort_of op) parts.now ty ≡ true → result ≡ step_of (node_number t.now target) (num_in (chain_of at signs ty (sort_of op) (map (tree_of t.now) parts.now))) }
+    ensures { (at : Place) (signs : List Place) (ty : Ty) → is_numeric ty ≡ true → chain_fits t.now (operator_kind op) parts.now ty ≡ true → result ≡ step_of (node_number t.now target) (num_in (chain_of at signs ty (operator_kind op) (map (tree_of t.now) parts.now))) }
 {
     match parts {
         [a, b] => step_by_two(t, target, op, *a, *b),
@@ -110,15 +110,13 @@ fn step_by_two(t: &Typed, target: ExprId, op: Op, a: ExprId, b: ExprId) -> Optio
     requires target { is_number_at t.now target ≡ true }
     requires left { is_number_at t.now a ≡ true }
     requires right { is_number_at t.now b ≡ true }
-    ensures { result ≡ step_of_two (node_number t.now target) (sort_of op) (node_number t.now a) (number_in (node_number t.now b)) }
+    ensures { result ≡ step_of_two (node_number t.now target) (operator_kind op) (node_number t.now a) (number_in (node_number t.now b)) }
 {
-    match number(t, b) {
-        Some(k) => if same_number(t, target, a) {
-            step_by(op, k)
-        } else {
-            None
-        },
-        None => None,
+    let k = number(t, b)?;
+    if same_number(t, target, a) {
+        step_by(op, k)
+    } else {
+        None
     }
 }
 
@@ -133,7 +131,7 @@ fn same_number(t: &Typed, a: ExprId, b: ExprId) -> bool
 }
 
 fn step_by(op: Op, k: u64) -> Option<Change>
-    ensures { result ≡ step_by_sort (sort_of op) k }
+    ensures { result ≡ step_by_sort (operator_kind op) k }
 {
     match op {
         Op::Add => Some(Change::Raised(k)),

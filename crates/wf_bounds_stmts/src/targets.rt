@@ -1,7 +1,7 @@
 // Targets: what is written, and what stays known of it.
 
 ghost use Rattle.std.specs.Prelude.{◌≡◌, IsTrue};
-ghost use Rattle.wf_ast.specs.TypedTrees.{target_of, tree_of, type_of_node, constant_of_node};
+ghost use Rattle.wf_ast.specs.TypedTrees.{target_of, tree_of, type_of_node};
 ghost use Rattle.wf_ast.specs.TypedInvariant.{is_expr};
 ghost use Rattle.wf_facts_exprs.specs.Claims.{claims_in, AreFacts};
 ghost use Rattle.wf_facts_exprs.specs.Demands.{unless_refused};

@@ -30,7 +30,7 @@ stops (Done _) = false
 stops Turns = true
 stops Undefined = true
 
--- The outcome is of this kind; a status's number is below the number of statuses.
+-- The outcome is of this kind; a status is one that the surface has.
 abbrev pub FitsAnswer : Surface → AnswerKind → Outcome → Type 0
 FitsAnswer surface a_status (Status id) = id.0 < length surface.statuses
 FitsAnswer surface (numeric bits) (Num n) = n < 2 ^ bits
@@ -47,7 +47,7 @@ DoneFits surface kind Undefined = ⊤
 abbrev pub FitsCalled : Surface → List Receiver → HostCall → Reply → Type 0
 FitsCalled surface receivers call reply = IsSomeAnd (called_method surface receivers call) (λ method. DoneFits surface method.answers reply)
 
--- The buffers and byte arrays are as many as before, with the same capacities and lengths.
+-- There are as many buffers and byte arrays as there were, and each is as large as it was.
 abbrev pub SameSizes : Host → Host → Type 0
 SameSizes old new = (map capacity new.buffers ≡ map capacity old.buffers) × (map (λ array. length array) new.arrays ≡ map (λ array. length array) old.arrays)
 

@@ -1,6 +1,6 @@
 // Lists of host actions, and what a host sees when an engine performs one.
 
-ghost use Rattle.std.specs.Prelude.{◌≡◌, ℕ, false, List, [], ◌∷◌, ◌++◌, length, map, IfOk, OnOk, OnErr};
+ghost use Rattle.std.specs.Prelude.{◌≡◌, false, [], ◌∷◌, ◌++◌, length, map, IfOk, OnOk, OnErr};
 ghost use Rattle.wf_base.specs.HostRun.{run, act as performed};
 ghost use Rattle.wf_base.specs.LawfulActions.{AreLawful, MayAct, buffers_behind, arrays_behind};
 ghost use Rattle.wf_bufs.specs.EngineLaw.{stops, steps_of};

@@ -1,6 +1,6 @@
 // A buffer: bytes that one side writes and the other reads. It keeps `ri <= wi <= capacity`.
 
-ghost use Rattle.std.specs.Prelude.{◌≡◌, ℕ, ◌+◌, ◌-◌, ◌<◌, ◌≤◌, ◌^◌, nat_lt, nat_le, ◌&&◌, min, List, [], ◌∷◌, length, vec_len, Option, IfOk, MatchBool};
+ghost use Rattle.std.specs.Prelude.{◌≡◌, ◌+◌, ◌-◌, ◌<◌, ◌≤◌, nat_lt, nat_le, ◌&&◌, min, [], ◌∷◌, length, Option, IfOk, MatchBool};
 ghost use Rattle.wf_base.specs.BaseOps.{Buffer, capacity, empty_buffer, unread_at, skipped, reader_length, reader_position, writer_length, has_room, writer_position, overwritten, appended, put, put_count, close, compact, with_cell, placed};
 
 use std::alloc::Global;
@@ -193,7 +193,7 @@ impl Buf {
         self.closed = true;
     }
 
-    /// Moves the unread bytes to the front, and leaves all other cells.
+    /// The bytes not read yet go to the front; every other cell stays as it is.
     pub fn compact(&mut self)
         ensures { self.new ≡ compact self.old }
     {

@@ -1,6 +1,6 @@
 // What every machine that runs a package is: the law under which one script drives any of them.
 
-ghost use Rattle.std.specs.Prelude.{◌≡◌, ℕ, ◌<◌, Bool, true, false, List, length};
+ghost use Rattle.std.specs.Prelude.{◌≡◌, ℕ, ◌<◌, Bool, false, List, length};
 ghost use Rattle.wf_text.specs.Surface.{Surface, status};
 ghost use Rattle.wf_text.specs.HostActions.{Receiver};
 ghost use Rattle.wf_base.specs.HostRun.{Host, HostCall};
@@ -45,8 +45,8 @@ pub trait Engine {
         ensures receivers { receivers (state self.new) ≡ receivers (state self.old) }
         ensures kind { DoneFits (surface (state self.old)) status result };
 
-    /// One public call on the host's buffers and byte arrays, within `turns` turns. The outcome is of the kind
-    /// that the method answers. After Turns and Undefined the engine has stopped, and nothing is said of the
+    /// One public call on the host's buffers and byte arrays, within `turns` turns. An outcome is of the method's
+    /// kind of answer. After Turns and Undefined the engine has stopped, and nothing is said of the
     /// buffers.
     fn call(&mut self, what: &Call<'_>, bufs: &mut Bufs, turns: u64) -> Reply
         requires goes_on { stopped (state self.old) ≡ false }

@@ -111,10 +111,7 @@ impl PublicSurface {
     pub fn answers(&self, receiver: ReceiverDecl, method: MethodId) -> Option<AnswerKind>
         ensures { option_map answer_kind_of result ≡ option_map (λ it. it.answers) (method_of self.now method.0 (receiver_of receiver)) }
     {
-        match self.structure(receiver.of) {
-            Some(it) => it.answers(method),
-            None => None,
-        }
+        self.structure(receiver.of)?.answers(method)
     }
 
     // The public struct with this number.
@@ -129,9 +126,7 @@ impl StructDecl {
     fn answers(&self, method: MethodId) -> Option<AnswerKind>
         ensures { option_map answer_kind_of result ≡ option_map (λ it. it.answers) (method_numbered method.0 self.now) }
     {
-        match self.methods.iter().find(|it| it.number == method) {
-            Some(found) => Some(found.answers),
-            None => None,
-        }
+        let found = self.methods.iter().find(|it| it.number == method)?;
+        Some(found.answers)
     }
 }

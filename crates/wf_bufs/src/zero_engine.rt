@@ -1,6 +1,6 @@
 // An engine that runs nothing: it answers ok, 0, false or nothing, and leaves the buffers.
 
-ghost use Rattle.std.specs.Prelude.{◌≡◌, ◌<◌, ℕ, Bool, false, length, map, option_map, slice_get, option_and_then};
+ghost use Rattle.std.specs.Prelude.{◌≡◌, ◌<◌, false, length, map, option_map};
 ghost use Rattle.wf_bufs.specs.HostViews.{call_of};
 ghost use Rattle.wf_bufs.specs.SurfaceViews.{answer_kind_of, receiver_of};
 ghost use Rattle.wf_bufs.specs.ZeroAnswers.{zero_of, zero_init, zero_call};
@@ -47,10 +47,8 @@ impl ZeroEngine {
     fn called(&self, what: &Call<'_>) -> Option<AnswerKind>
         ensures { option_map answer_kind_of result ≡ option_map (λ it. it.answers) (called_method self.now.0 self.now.1 (call_of what.now)) }
     {
-        match self.receivers.get(what.receiver as usize) {
-            Some(receiver) => self.surface.answers(*receiver, what.method),
-            None => None,
-        }
+        let receiver = self.receivers.get(what.receiver as usize)?;
+        self.surface.answers(*receiver, what.method)
     }
 }
 

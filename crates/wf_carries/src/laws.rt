@@ -1,6 +1,6 @@
 // The laws of carrying. Each is the contract of a function that does nothing.
 
-ghost use Rattle.std.specs.Prelude.{◌≡◌, ℕ, List};
+ghost use Rattle.std.specs.Prelude.{◌≡◌, List};
 ghost use Rattle.wf_text.specs.HostActions.{HostAction, Receiver};
 ghost use Rattle.wf_base.specs.BaseOps.{Buffer};
 ghost use Rattle.wf_base.specs.LawfulActions.{AreDeclared, AreLawful};

@@ -3,14 +3,13 @@ use Rattle.std.specs.Prelude.{◌≡◌, ◌<◌, ◌&&◌, ℕ, Bool, true, fal
 use Rattle.wf_base.specs.declared.marks.Mark.TheVariants.{Pure}
 use Rattle.wf_ast.specs.WellTyped.{same_mark}
 use Rattle.wf_base.specs.declared.base_methods.BaseSig.{BaseSig}
-use Rattle.wf_base.specs.declared.base_methods.Gives.TheVariants as gives
 use Rattle.wf_base.specs.BaseTable.{bits_of, row_of}
 use Rattle.wf_ast.specs.declared.numbers.ExprId.{ExprId}
 use Rattle.wf_ast.specs.declared.typed_nodes.TypedNodes.{TypedNodes}
 use Rattle.wf_ast.specs.declared.types.Ty.{Ty}
 use Rattle.wf_ast.specs.declared.types.Ty.TheVariants as types
 use Rattle.wf_ast.specs.TypedTree.{NumTree}
-use Rattle.wf_ast.specs.TypedTrees.{Sort, arithmetic, ordering, joining, type_of_node}
+use Rattle.wf_ast.specs.TypedTrees.{OperatorKind, arithmetic, ordering, joining, type_of_node}
 use Rattle.wf_ast.specs.TypedInvariant.{has_kind}
 use Rattle.wf_ast.specs.NodeKinds.{is_number_at, is_num}
 use Rattle.c_text.specs.declared.kinds.COp.{COp}
@@ -54,13 +53,13 @@ HasEnd nodes (Some a) (Some it) = HasRated nodes a it
 HasEnd nodes a it = ⊥
 
 -- An operator of the source as one of C, whatever it gives.
-abbrev pub c_op : Sort → COp
+abbrev pub c_op : OperatorKind → COp
 c_op (arithmetic op) = op_of op
 c_op (ordering op) = order_op op
 c_op (joining both) = if both then Both else Either
 
 -- Two operands with an operator between them.
-abbrev pub linked_by : Sort → (bits : ℕ) → Rated → Rated → ExprTree
+abbrev pub linked_by : OperatorKind → (bits : ℕ) → Rated → Rated → ExprTree
 linked_by (arithmetic op) bits a b = linked op bits false a b
 linked_by sort bits a b = two (c_op sort) (balanced bits a b) b.code
 

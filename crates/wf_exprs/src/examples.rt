@@ -1,12 +1,9 @@
 // Worked examples. Each is the contract of a function that does nothing.
 
-ghost use Rattle.std.specs.Prelude.{◌≡◌, true, false, [], ◌∷◌, codes};
-ghost use Rattle.wf_text.specs.declared.place.Place.{Place};
-ghost use Rattle.wf_ast.specs.TypedTree.{local, field, arg, plus, times, mod_times, number, read, link, convert};
-ghost use Rattle.c_text.specs.declared.kinds.CNumber.TheVariants.{Int};
+ghost use Rattle.std.specs.Prelude.{◌≡◌, false, codes};
+ghost use Rattle.wf_ast.specs.TypedTree.{plus, times, mod_times, number, link, convert};
 ghost use Rattle.c_text.specs.declared.kinds.COp.TheVariants.{Add, Mul};
-ghost use Rattle.c_text.specs.CTree.{uint, variable, member, cast};
-ghost use Rattle.c_text.specs.CTree as c;
+ghost use Rattle.c_text.specs.CTree.{variable, member, cast};
 ghost use Rattle.wf_exprs.specs.Words.{num, uint_of, two};
 ghost use Rattle.wf_exprs.specs.Exprs.{lowered_expr};
 ghost use Rattle.wf_exprs.specs.Samples.{some_names, here, digit, val, half};

@@ -9,4 +9,4 @@ pub mod rated;
 pub mod scope;
 
 pub use rated::{Pair, Rated};
-pub use scope::{Path, Scope};
+pub use scope::{BodyNames, Path};

@@ -1,6 +1,6 @@
 // The names of a C text, which are put into its unit: each begins with a word of its own, and keeps the source's name.
 
-ghost use Rattle.std.specs.Prelude.{◌≡◌, IfOk, ◌++◌, decimal};
+ghost use Rattle.std.specs.Prelude.{IfOk, ◌++◌, decimal};
 ghost use Rattle.c_text.specs.CGrammar.{IsName};
 ghost use Rattle.wf_exprs.specs.Grown.{Grows, HasNamed};
 

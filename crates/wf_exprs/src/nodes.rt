@@ -1,12 +1,11 @@
 // Expressions of C, each made of parts that the unit has already.
 
-ghost use Rattle.std.specs.Prelude.{◌≡◌, IfOk, ◌<◌, ◌++◌, ◌∷◌, [], false, length, codes};
+ghost use Rattle.std.specs.Prelude.{◌≡◌, IfOk, ◌<◌, ◌++◌, ◌∷◌, [], false, length};
 ghost use Rattle.wf_base.specs.BaseTable.{bits_of};
 ghost use Rattle.c_text.specs.CFits.{FitsExpr};
 ghost use Rattle.c_text.specs.CGrammar.{IsName, is_literal as is_literal_tree};
 ghost use Rattle.c_text.specs.CNodes.{bytes_at, expr_of, made_expr};
 ghost use Rattle.c_text.specs.CSpelling.{IsLiteral};
-ghost use Rattle.c_text.specs.CTree.{no_operand};
 ghost use Rattle.c_text.specs.CTree as c;
 ghost use Rattle.c_text.specs.declared.kinds.CUnary.TheVariants as unaries;
 ghost use Rattle.wf_exprs.specs.Exprs.{is_held as is_held_tree};

@@ -1,9 +1,9 @@
 // Numbers of C with the type in which C calculates them, and the operators between them. A cast stands where C would calculate
 // in another type than the source, and nowhere else.
 
-ghost use Rattle.std.specs.Prelude.{◌≡◌, ◌<◌, true, false, length, option_map, IfOk, IfSome, Some, None};
+ghost use Rattle.std.specs.Prelude.{◌≡◌, ◌<◌, true, false, length, IfOk, Some, None};
 ghost use Rattle.wf_base.specs.BaseTable.{bits_of};
-ghost use Rattle.wf_ast.specs.TypedTrees.{sort_of};
+ghost use Rattle.wf_ast.specs.TypedTrees.{operator_kind};
 ghost use Rattle.c_text.specs.CNodes.{expr_of};
 ghost use Rattle.c_text.specs.CSpelling.{IsLiteral};
 ghost use Rattle.wf_exprs.specs.Exprs.{balanced as balanced_code, calculated as calculated_of, converted as converted_code, cut_off as cut_off_code, factor as factor_code, firm as firm_code, literal_type as type_of_literal, rank as rank_of, recast as recast_code, saturated as saturated_code, saturating_name as name_of_saturating, suffixed as suffixed_literal, wider as wider_of};
@@ -223,7 +223,7 @@ fn cut_off_two(
 
 /// An operator of the source as one of C.
 pub fn op_of(op: Op) -> COp
-    ensures { result ≡ c_op (sort_of op) }
+    ensures { result ≡ c_op (operator_kind op) }
 {
     match op {
         Op::Add | Op::ModAdd | Op::SatAdd => COp::Add,
@@ -259,7 +259,7 @@ pub fn linked(
     requires first { a.code.0 < length u.old.exprs }
     requires second { b.code.0 < length u.old.exprs }
     ensures grows { Grows u.old u.new }
-    ensures made { IfOk result (λ it. HasExpr u.new it.0 (linked_by (sort_of op) (bits_of width) (rated_in u.old a) (rated_in u.old b))) }
+    ensures made { IfOk result (λ it. HasExpr u.new it.0 (linked_by (operator_kind op) (bits_of width) (rated_in u.old a) (rated_in u.old b))) }
 {
     match op {
         Op::Shl | Op::Shr => {

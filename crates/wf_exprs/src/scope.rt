@@ -1,10 +1,9 @@
 // What a method's expressions name: fields, arguments and locals by their numbers, with the names that they have in C.
 
-ghost use Rattle.std.specs.Prelude.{◌≡◌, ◌<◌, ◌++◌, ◌∷◌, [], ℕ, List, true, length, map, IfOk, codes};
+ghost use Rattle.std.specs.Prelude.{◌≡◌, ◌<◌, [], true, IfOk};
 ghost use Rattle.std.specs.List.{list_all};
 ghost use Rattle.wf_ast.specs.TypedInvariant.{IsTyped};
 ghost use Rattle.c_text.specs.CGrammar.{IsName};
-ghost use Rattle.c_text.specs.CNodes.{expr_of};
 ghost use Rattle.c_text.specs.CSpelling.{is_word_byte};
 ghost use Rattle.c_text.specs.CTree as c;
 ghost use Rattle.wf_exprs.specs.Exprs.{bytes_code, end_code, io_code, path_code, place_code};
@@ -23,7 +22,7 @@ use wf_text::NoMemory;
 
 /// The names of a method's body.
 #[derive(Drop)]
-pub struct Scope<'a> {
+pub struct BodyNames<'a> {
     alloc: Global,
     t: &'a Typed,
     fields: &'a [Var],
@@ -31,7 +30,7 @@ pub struct Scope<'a> {
     locals: &'a [Var],
 }
 
-impl<'a> Model for Scope<'a> {
+impl<'a> Model for BodyNames<'a> {
     ghost use Rattle.std.specs.Prelude.{◌≡◌, true};
     ghost use Rattle.wf_ast.specs.TypedInvariant.{IsTyped};
     ghost use Rattle.wf_exprs.specs.Scopes.{ScopeTree, Scoped, names_in};
@@ -63,7 +62,7 @@ fn named<'a>(t: &'a Typed, variables: &[Var], n: u32) -> &'a [u8]
     }
 }
 
-impl<'a> Scope<'a> {
+impl<'a> BodyNames<'a> {
     /// The names of a method's body: `fields` are those of its struct.
     pub fn new(
         alloc: Global,
@@ -71,11 +70,11 @@ impl<'a> Scope<'a> {
         fields: &'a [Var],
         args: &'a [Var],
         locals: &'a [Var],
-    ) -> Scope<'a>
+    ) -> BodyNames<'a>
         requires { Scoped t.now fields.now args.now locals.now }
         ensures { result ≡ record { nodes = t.now; names = record { fields = names_in t.now fields.now; args = names_in t.now args.now; locals = names_in t.now locals.now } } }
     {
-        Scope {
+        BodyNames {
             alloc,
             t,
             fields,

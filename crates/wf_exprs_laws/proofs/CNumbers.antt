@@ -35,9 +35,6 @@ width-limit bits n w = by_width (λ bits. n < 2 ^ bits → n < c_limit (calculat
 pub width-of_calculated : (bits : ℕ) → is_width bits ≡ true → bits ≤ c_width (calculated bits)
 width-of_calculated bits w = by_width (λ bits. bits ≤ c_width (calculated bits)) bits w (omega arith) (omega arith) (omega arith) (omega arith)
 
-pub calculated-whole : (bits : ℕ) → is_width bits ≡ true → 2 ^ bits ≤ c_limit (calculated bits)
-calculated-whole bits w = by_width (λ bits. 2 ^ bits ≤ c_limit (calculated bits)) bits w (omega arith) (omega arith) (omega arith) (omega arith)
-
 pub limit-width : (ty : CTy) (n : ℕ) → n < c_limit ty → n < 2 ^ c_width ty
 limit-width Int n h = omega (arith, h)
 limit-width U32 n h = h

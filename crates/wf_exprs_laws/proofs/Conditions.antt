@@ -16,11 +16,11 @@ use Rattle.wf_ast.specs.Value.{State, value, io_buffer, compares, same_truth, sa
 use Rattle.wf_ast.specs.WellTyped.{variable_at, is_whole_number, width_of, fit_together, well_num, well_status, well_cond}
 use Rattle.c_text.specs.declared.kinds.COp.TheVariants.{Eq, Ne, Both, Either}
 use Rattle.c_text.specs.declared.kinds.CUnary.TheVariants.{Not}
-use Rattle.c_text.specs.CTree.{TypeTree, uint, size, boolean, uint_pointer, struct_pointer, text, ExprTree, variable, unary}
+use Rattle.c_text.specs.CTree.{uint, size, boolean, uint_pointer, struct_pointer, text, ExprTree, variable, unary}
 use Rattle.c_text.specs.CTree as tree
 use Rattle.c_meaning.specs.declared.values.Pointer.{Pointer}
-use Rattle.c_meaning.specs.declared.values.Value.{Value}
-use Rattle.c_meaning.specs.declared.values.Value.TheVariants.{Numeric as numeric, Address as address, NullPointer as null_pointer}
+use Rattle.c_meaning.specs.declared.values.CValue.{CValue}
+use Rattle.c_meaning.specs.declared.values.CValue.TheVariants.{Numeric as numeric, Address as address, NullPointer as null_pointer}
 use Rattle.c_meaning.specs.CValues.{number, holds, negated, same_pointer}
 use Rattle.c_meaning.specs.CValues as values
 use Rattle.c_meaning.specs.CMemory.{Memory, loaded, offset}
@@ -38,7 +38,7 @@ use Rattle.wf_exprs_laws.proofs.Trees.{came, mapped, numbers as numbers_law}
 
 -- An expression of C holds or doesn't, as a truth value says.
 pub record CondGives (x : Surroundings) (e : ExprTree) (b : Bool) : Type 0 where
-  pub at : Value
+  pub at : CValue
   pub value : c.value x e ≡ Some at
   pub is : holds at ≡ b
 
@@ -100,11 +100,11 @@ compared-cond x greater e f a b m n h g = order-cond x greater e f a b m n h g
 
 -- ---- `and` and `or`
 
-and-value : (a : Bool) (w : Value) → truth_value (and_also a (Some w)) ≡ Some (numeric (values.truth (a && holds w)))
+and-value : (a : Bool) (w : CValue) → truth_value (and_also a (Some w)) ≡ Some (numeric (values.truth (a && holds w)))
 and-value true w = refl
 and-value false w = refl
 
-or-value : (a : Bool) (w : Value) → truth_value (or_else a (Some w)) ≡ Some (numeric (values.truth (a || holds w)))
+or-value : (a : Bool) (w : CValue) → truth_value (or_else a (Some w)) ≡ Some (numeric (values.truth (a || holds w)))
 or-value true w = refl
 or-value false w = refl
 
@@ -120,11 +120,11 @@ junction-cond x false joined e f p q g h =
 -- ---- comparisons of statuses
 
 -- What `==` and `!=` of two values give.
-abbrev Compares : Surroundings → (o : Bool) → Value → Value → (same : Bool) → Type 0
+abbrev Compares : Surroundings → (o : Bool) → CValue → CValue → (same : Bool) → Type 0
 Compares x o v w t =
     (combined x.memory o Eq (Some v) (Some w) ≡ Some (numeric (values.truth t))) × (combined x.memory o Ne (Some v) (Some w) ≡ Some (numeric (values.truth (not t))))
 
-null-null : (x : Surroundings) (o : Bool) (v w : Value) → IsNull v → IsNull w → Compares x o v w true
+null-null : (x : Surroundings) (o : Bool) (v w : CValue) → IsNull v → IsNull w → Compares x o v w true
 null-null x o (numeric a) (numeric b) h g = (rw (h, g) refl, rw (h, g) refl)
 null-null x o (numeric a) null_pointer h g = (refl, refl)
 null-null x o null_pointer (numeric b) h g = (refl, refl)
@@ -132,12 +132,12 @@ null-null x o null_pointer null_pointer h g = (refl, refl)
 null-null x o (address p) w h g = absurd h
 null-null x o v (address q) h g = absurd g
 
-null-address : (x : Surroundings) (o : Bool) (v : Value) (q : Pointer) → IsNull v → Compares x o v (address q) false
+null-address : (x : Surroundings) (o : Bool) (v : CValue) (q : Pointer) → IsNull v → Compares x o v (address q) false
 null-address x o (numeric a) q h = (refl, refl)
 null-address x o null_pointer q h = (refl, refl)
 null-address x o (address p) q h = absurd h
 
-address-null : (x : Surroundings) (o : Bool) (p : Pointer) (w : Value) → IsNull w → Compares x o (address p) w false
+address-null : (x : Surroundings) (o : Bool) (p : Pointer) (w : CValue) → IsNull w → Compares x o (address p) w false
 address-null x o p (numeric b) h = (refl, refl)
 address-null x o p null_pointer h = (refl, refl)
 address-null x o p (address q) h = absurd h
@@ -212,13 +212,13 @@ first-number x e p b t v small h = record {
   small = omega (arith, small);
 }
 
-null-holds : (v : Value) → IsNull v → holds v ≡ false
+null-holds : (v : CValue) → IsNull v → holds v ≡ false
 null-holds (numeric n) h = rw h refl
 null-holds null_pointer h = refl
 null-holds (address p) h = absurd h
 
 -- A value that doesn't hold decides an `and`.
-none-cond : (x : Surroundings) (e f : ExprTree) (v : Value) → c.value x e ≡ Some v → holds v ≡ false → CondGives x (two Both e f) false
+none-cond : (x : Surroundings) (e f : ExprTree) (v : CValue) → c.value x e ≡ Some v → holds v ≡ false → CondGives x (two Both e f) false
 none-cond x e f v h n =
     let w = chained-value x false Both e f in
     truth-cond x (two Both e f) false false (w.1 ∙ rw h (rw n refl)) refl
@@ -281,18 +281,18 @@ module _ (p : PackageTree) (m : MethodTree) (s : State) (x : Surroundings) (st :
   status-gives no_status n u h e = absurd (cc e)
 
   -- A status but ok is the address of its text.
-  record IsAddress (n : ℕ) (v : Value) : Type 0 where
+  record IsAddress (n : ℕ) (v : CValue) : Type 0 where
     pub at : Pointer
     pub is : address at ≡ v
     pub value : c.value x (status_constant n) ≡ Some (address at)
 
-  status-address : (n : ℕ) (v : Value) → IsStatus (suc n) → IsStatusValue x (suc n) v → IsAddress (suc n) v
+  status-address : (n : ℕ) (v : CValue) → IsStatus (suc n) → IsStatusValue x (suc n) v → IsAddress (suc n) v
   status-address n v h e =
       let t = st.texts (suc n) (omega arith) h in
       let same : Some (address t.at) ≡ Some v = sym t.value ∙ e in
       record { at = t.at; is = cc same; value = t.value }
 
-  pointers-tell : (n k : ℕ) (v w : Value) → IsStatus n → IsStatus k → (a : IsAddress n v) → (b : IsAddress k w) → same_pointer a.at b.at ≡ nat_eq n k
+  pointers-tell : (n k : ℕ) (v w : CValue) → IsStatus n → IsStatus k → (a : IsAddress n v) → (b : IsAddress k w) → same_pointer a.at b.at ≡ nat_eq n k
   pointers-tell n k v w h g a b = by (same_pointer a.at b.at) (nat_eq n k) refl refl
     where
       by : (t u : Bool) → same_pointer a.at b.at ≡ t → nat_eq n k ≡ u → t ≡ u
@@ -307,7 +307,7 @@ module _ (p : PackageTree) (m : MethodTree) (s : State) (x : Surroundings) (st :
           let pointers : a.at ≡ b.at = cc values in
           absurd (cc (e, subst (λ q. same_pointer a.at q ≡ true) pointers (same-itself a.at)))
 
-  statuses-compare : (o : Bool) (n k : ℕ) (v w : Value) → IsStatus n → IsStatus k → IsStatusValue x n v → IsStatusValue x k w → Compares x o v w (nat_eq n k)
+  statuses-compare : (o : Bool) (n k : ℕ) (v w : CValue) → IsStatus n → IsStatus k → IsStatusValue x n v → IsStatusValue x k w → Compares x o v w (nat_eq n k)
   statuses-compare o zero zero v w h g d e = null-null x o v w d e
   statuses-compare o zero (suc k) v w h g d e =
       let a = status-address k w g e in

@@ -6,7 +6,7 @@ use Rattle.wf_num.specs.CArithmetic.{modulo, c_value}
 use Rattle.wf_num.proofs.CLaws.{c_value-whole}
 use Rattle.wf_ast.specs.WellTyped.{is_width}
 use Rattle.c_meaning.specs.declared.cells.Cell.TheVariants.{Num as num}
-use Rattle.c_meaning.specs.declared.values.Value.TheVariants.{Numeric as numeric}
+use Rattle.c_meaning.specs.declared.values.CValue.TheVariants.{Numeric as numeric}
 use Rattle.c_meaning.specs.CValues.{number}
 use Rattle.c_meaning.specs.CMemory.{cell_of}
 use Rattle.c_meaning.specs.CExprs.{cell_type}

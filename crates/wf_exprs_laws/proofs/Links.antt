@@ -16,7 +16,7 @@ use Rattle.wf_ast.specs.WellTyped.{is_width, is_shift}
 use Rattle.c_text.specs.declared.kinds.COp.{COp}
 use Rattle.c_text.specs.declared.kinds.COp.TheVariants.{Add, Sub, Mul, Div, Rem, Shl, Shr, BitAnd, BitOr, BitXor}
 use Rattle.c_text.specs.CTree.{ExprTree, cast}
-use Rattle.c_meaning.specs.declared.values.Value.TheVariants.{Numeric as numeric}
+use Rattle.c_meaning.specs.declared.values.CValue.TheVariants.{Numeric as numeric}
 use Rattle.c_meaning.specs.CValues.{number, common, of_type, arithmetic, class_of, arithmetics}
 use Rattle.c_meaning.specs.CTypes.{type_of}
 use Rattle.c_meaning.specs.CExprs.{Surroundings}

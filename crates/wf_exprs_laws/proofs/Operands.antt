@@ -14,14 +14,14 @@ use Rattle.c_text.specs.declared.kinds.COp.{COp}
 use Rattle.c_text.specs.declared.kinds.COp.TheVariants.{Add, Sub, Mul, Div, Rem, Shl, Shr, BitAnd, BitOr, BitXor, Lt, Le, Gt, Ge, Eq, Ne, Both, Either}
 use Rattle.c_text.specs.declared.kinds.CUint.{CUint}
 use Rattle.c_text.specs.CSpelling.{op_bytes}
-use Rattle.c_text.specs.CTree.{TypeTree, uint, ExprTree, operation, cast, Operands, no_operand, operand}
+use Rattle.c_text.specs.CTree.{uint, ExprTree, operation, cast, Operands, no_operand, operand}
 use Rattle.c_text.specs.CTree as tree
 use Rattle.c_meaning.specs.declared.values.Number.{Number}
-use Rattle.c_meaning.specs.declared.values.Value.{Value}
-use Rattle.c_meaning.specs.declared.values.Value.TheVariants.{Numeric as numeric}
+use Rattle.c_meaning.specs.declared.values.CValue.{CValue}
+use Rattle.c_meaning.specs.declared.values.CValue.TheVariants.{Numeric as numeric}
 use Rattle.c_meaning.specs.CValues.{number, whole, common, of_type, arithmetic, class_of, arithmetics, operated_as}
 use Rattle.c_meaning.specs.CMemory.{Memory}
-use Rattle.c_meaning.specs.CTypes.{StructDecl, Scope, ExprType, numbers, points_to, zero_literal, promoted, value_type, as_number, cast_from, operation_type, operations_type, type_of, operand_types}
+use Rattle.c_meaning.specs.CTypes.{StructDecl, CScope, ExprType, numbers, points_to, zero_literal, promoted, value_type, as_number, cast_from, operation_type, operations_type, type_of, operand_types}
 use Rattle.c_meaning.specs.CExprs.{Surroundings, as_type, combined, from_left, is_object_pointer, operand_values}
 use Rattle.c_meaning.specs.CExprs as c
 use Rattle.wf_exprs.specs.Words.{literal, num, width_of, uint_of, two}
@@ -107,7 +107,7 @@ cast-type structs u (numbers c) ty h = refl
 cast-type structs u (points_to p) ty h = absurd (cc h)
 cast-type structs u zero_literal ty h = refl
 
-pub cast-typed : (bits : ℕ) → is_width bits ≡ true → (scope : Scope) (e : ExprTree) (ty : CTy) → option_and_then as_number (type_of scope e) ≡ Some ty
+pub cast-typed : (bits : ℕ) → is_width bits ≡ true → (scope : CScope) (e : ExprTree) (ty : CTy) → option_and_then as_number (type_of scope e) ≡ Some ty
     → option_and_then as_number (type_of scope (cast (uint_of bits) e)) ≡ Some (calculated bits)
 cast-typed bits w scope e ty h =
     let t = has-type (type_of scope e) ty h in
@@ -134,7 +134,7 @@ cast-number bits w x e ty n h k =
       small = width-limit bits n w k;
     }
 
-abbrev bits_in : Option Value → ℕ
+abbrev bits_in : Option CValue → ℕ
 bits_in (Some (numeric k)) = k.bits
 bits_in v = 0
 
@@ -196,12 +196,12 @@ operand_values-more : (x : Surroundings) (os : Operands) (e : ExprTree) → oper
 operand_values-more x no_operand e = refl
 operand_values-more x (operand f os) e = ap (λ vs. c.value x f ∷ vs) (operand_values-more x os e)
 
-from_left-more : (memory : Memory) (o : Bool) (op : COp) (first : Option Value) (vs : List (Option Value)) (w : Option Value)
+from_left-more : (memory : Memory) (o : Bool) (op : COp) (first : Option CValue) (vs : List (Option CValue)) (w : Option CValue)
     → from_left memory o op first (vs ++ w ∷ []) ≡ combined memory o op (from_left memory o op first vs) w
 from_left-more memory o op first [] w = refl
 from_left-more memory o op first (v ∷ vs) w = from_left-more memory o op (combined memory o op first v) vs w
 
-operand_types-more : (scope : Scope) (os : Operands) (e : ExprTree) → operand_types scope (with_operand os e) ≡ operand_types scope os ++ type_of scope e ∷ []
+operand_types-more : (scope : CScope) (os : Operands) (e : ExprTree) → operand_types scope (with_operand os e) ≡ operand_types scope os ++ type_of scope e ∷ []
 operand_types-more scope no_operand e = refl
 operand_types-more scope (operand f os) e = ap (λ ts. type_of scope f ∷ ts) (operand_types-more scope os e)
 
@@ -257,7 +257,7 @@ chained-value x true op (operation other f s os) e = by (same_op op other) refl
     by false h = (is_object_pointer (type_of x.scope (operation other f s os)), refl)
 chained-value x true op a e = (is_object_pointer (type_of x.scope a), refl)
 
-pub chained-type : (scope : Scope) (joined : Bool) (op : COp) (a e : ExprTree)
+pub chained-type : (scope : CScope) (joined : Bool) (op : COp) (a e : ExprTree)
     → type_of scope (chained joined op a e) ≡ joint_type op (type_of scope a) (type_of scope e)
 chained-type scope false op a e = refl
 chained-type scope true op (operation other f s os) e = by (same_op op other) refl

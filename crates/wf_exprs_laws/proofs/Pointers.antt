@@ -14,8 +14,8 @@ use Rattle.c_text.specs.CTree as tree
 use Rattle.c_meaning.specs.declared.cells.CellType.{CellType}
 use Rattle.c_meaning.specs.declared.cells.Cell.{Cell}
 use Rattle.c_meaning.specs.declared.values.Pointer.{Pointer}
-use Rattle.c_meaning.specs.declared.values.Value.{Value}
-use Rattle.c_meaning.specs.declared.values.Value.TheVariants.{Numeric as numeric, Address as address, NullPointer as null_pointer}
+use Rattle.c_meaning.specs.declared.values.CValue.{CValue}
+use Rattle.c_meaning.specs.declared.values.CValue.TheVariants.{Numeric as numeric, Address as address, NullPointer as null_pointer}
 use Rattle.c_meaning.specs.CValues.{number, common}
 use Rattle.c_meaning.specs.CMemory.{Memory, cells_at, loaded, offset, within, moved_in}
 use Rattle.c_meaning.specs.CTypes.{cell, points_to, one, type_of}
@@ -60,16 +60,16 @@ moved-again memory p q i k h =
     (ap (λ n. option_and_then (λ found. option_map (λ index. record p { index = index }) (within (length found.1) (pos n))) (cells_at memory p.object p.field)) sum)
 
 -- A value is another one that has moved so many cells on.
-pub record HasMoved (memory : Memory) (v w : Value) (i : ℕ) : Type 0 where
+pub record HasMoved (memory : Memory) (v w : CValue) (i : ℕ) : Type 0 where
   pub again : (k : ℕ) → cell_behind memory w k ≡ cell_behind memory v (i + k)
   pub inside : (k : ℕ) → IsInside memory v (i + k) → IsInside memory w k
   pub null : w ≡ null_pointer → v ≡ null_pointer
   pub kept : v ≡ null_pointer → w ≡ null_pointer
 
-at-zero : (memory : Memory) (v : Value) (k : ℕ) → IsInside memory v (0 + k) → IsInside memory v k
+at-zero : (memory : Memory) (v : CValue) (k : ℕ) → IsInside memory v (0 + k) → IsInside memory v k
 at-zero memory v k h = let e : 0 + k ≡ k = omega arith in subst (λ n. IsInside memory v n) e h
 
-pub not-moved : (memory : Memory) (v : Value) → HasMoved memory v v 0
+pub not-moved : (memory : Memory) (v : CValue) → HasMoved memory v v 0
 not-moved memory v = record {
   again = λ k. let e : k ≡ 0 + k = omega arith in ap (cell_behind memory v) e;
   inside = at-zero memory v;
@@ -102,7 +102,7 @@ element-some s cells k n h =
     let o = only-some (nat_lt k cells.count) (slice_get (s.cells_at cells.store) (cells.from + k)) n h in
     (grind (arith, nat_tests, o.0), o.1)
 
-module _ (s : State) (x : Surroundings) (bits : ℕ) (cells : Span) (v w : Value) (i j : ℕ) (stands : SpanStands s x bits cells v) (first : i ≤ j) (last : j ≤ cells.count) (m : HasMoved x.memory v w i) where
+module _ (s : State) (x : Surroundings) (bits : ℕ) (cells : Span) (v w : CValue) (i j : ℕ) (stands : SpanStands s x bits cells v) (first : i ≤ j) (last : j ≤ cells.count) (m : HasMoved x.memory v w i) where
   abbrev part : Span
   part = record { store = cells.store; from = cells.from + i; count = j - i }
 
@@ -128,7 +128,7 @@ held-one memory t None = refl
 held-one memory t (Some p) = refl
 
 -- `p[i]` is the cell that stands i cells after p.
-pub element-number : (x : Surroundings) (pointer index : ExprTree) (bits : ℕ) → is_width bits ≡ true → (v : Value) (ty : CTy) (k n : ℕ) → GivesPointer x pointer bits v → IsNumber x index ty k
+pub element-number : (x : Surroundings) (pointer index : ExprTree) (bits : ℕ) → is_width bits ≡ true → (v : CValue) (ty : CTy) (k n : ℕ) → GivesPointer x pointer bits v → IsNumber x index ty k
     → cell_behind x.memory v k ≡ Some (numeric (number (calculated bits) n)) → n < 2 ^ bits → IsNumber x (tree.element pointer index) (calculated bits) n
 element-number x pointer index bits w (address p) ty k n h g e small =
     let t = has-type (type_of x.scope index) ty g.gives.type in
@@ -154,7 +154,7 @@ sum-pointer x pointer index bits p q ty i h g o =
     }
 
 -- `(p ? (p + i) : 0)`
-choice-type : (x : Surroundings) (pointer index : ExprTree) (bits : ℕ) (v : Value) (ty : CTy) (i : ℕ) → GivesPointer x pointer bits v → IsNumber x index ty i
+choice-type : (x : Surroundings) (pointer index : ExprTree) (bits : ℕ) (v : CValue) (ty : CTy) (i : ℕ) → GivesPointer x pointer bits v → IsNumber x index ty i
     → type_of x.scope (choice pointer (two Add pointer index) (num 0)) ≡ Some (points_to (cell (uint_of bits)))
 choice-type x pointer index bits v ty i h g = let t = has-type (type_of x.scope index) ty g.gives.type in rw (h.type, t.is, t.number) refl
 
@@ -214,8 +214,8 @@ part_length-number x whole (Some from) None count i j h f t le =
 part_length-number x whole (Some from) (Some to) count i j h f t le = from_to-number x from to i j f t le
 
 -- What a part's pointer gives.
-pub record PointsOn (x : Surroundings) (e : ExprTree) (bits : ℕ) (v : Value) (i : ℕ) : Type 0 where
-  pub at : Value
+pub record PointsOn (x : Surroundings) (e : ExprTree) (bits : ℕ) (v : CValue) (i : ℕ) : Type 0 where
+  pub at : CValue
   pub gives : GivesPointer x e bits at
   pub moved : HasMoved x.memory v at i
 
@@ -230,7 +230,7 @@ null-moved : (memory : Memory) (i : ℕ) → HasMoved memory null_pointer null_p
 null-moved memory i = record { again = λ k. refl; inside = λ k m. m; null = λ e. e; kept = λ e. e }
 
 module _ (s : State) (x : Surroundings) (bits : ℕ) (cells : Span) where
-  pub part_pointer-gives : (never_null : Bool) (pointer : ExprTree) (from : Option Rated) (v : Value) (i : ℕ) → GivesPointer x pointer bits v → SpanStands s x bits cells v
+  pub part_pointer-gives : (never_null : Bool) (pointer : ExprTree) (from : Option Rated) (v : CValue) (i : ℕ) → GivesPointer x pointer bits v → SpanStands s x bits cells v
       → (never_null ≡ true → v ≡ null_pointer → ⊥) → IsEnd x from 0 i → i ≤ cells.count → PointsOn x (part_pointer never_null pointer from) bits v i
   part_pointer-gives never_null pointer None v i h stands some f le =
       record { at = v; gives = h; moved = subst (λ i. HasMoved x.memory v v i) f (not-moved x.memory v) }

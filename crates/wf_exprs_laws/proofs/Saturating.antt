@@ -12,8 +12,8 @@ use Rattle.wf_ast.proofs.TreeLemmas.{slice_get-seam}
 use Rattle.c_text.specs.declared.kinds.COp.TheVariants.{Add, Sub, Lt, Gt}
 use Rattle.c_text.specs.CTree.{ExprTree, variable, choice}
 use Rattle.c_meaning.specs.declared.cells.Cell.TheVariants.{Num as num_cell}
-use Rattle.c_meaning.specs.declared.values.Value.{Value}
-use Rattle.c_meaning.specs.declared.values.Value.TheVariants.{Numeric as numeric}
+use Rattle.c_meaning.specs.declared.values.CValue.{CValue}
+use Rattle.c_meaning.specs.declared.values.CValue.TheVariants.{Numeric as numeric}
 use Rattle.c_meaning.specs.CValues.{number, common}
 use Rattle.c_meaning.specs.CMemory.{Memory, Object, cells, value_of}
 use Rattle.c_meaning.specs.CTypes.{ExprType, numbers, points_to, zero_literal, as_number, one_type, test_type, operation_type, choice_type, assignable, function_named, type_of}
@@ -281,7 +281,7 @@ helper-gives p is_sum bits callee memory ty uy m n w h g m_few n_few =
 -- The same in an expression.
 call-gives : (p : Program) (is_sum : Bool) (bits : ℕ) (callee : List ℕ → ExprMeaning) (x : Surroundings) → is_width bits ≡ true
     → function_named x.scope.functions (saturating_name is_sum bits) ≡ Some (helper is_sum bits)
-    → ((given : List Value) → x.called (saturating_name is_sum bits) given ≡ expression_meaning p (helper is_sum bits) callee x.memory given)
+    → ((given : List CValue) → x.called (saturating_name is_sum bits) given ≡ expression_meaning p (helper is_sum bits) callee x.memory given)
     → (e f : ExprTree) (ty uy : CTy) (m n : ℕ) → m < 2 ^ bits → n < 2 ^ bits → IsTheNumber x e ty m → IsTheNumber x f uy n
     → GivesNumber x (saturated is_sum bits e f) (calculated bits) (saturation is_sum bits m n)
 call-gives p is_sum bits callee x w named called e f ty uy m n m_few n_few h g =

@@ -17,8 +17,8 @@ use Rattle.wf_ast.specs.Value.{Span, State, element_of, part_of, fitted, applied
 use Rattle.wf_ast.specs.WellTyped as well
 use Rattle.wf_ast.specs.WellTyped.{Context, type_at, variable_at, is_width, is_range, same_num_type, is_number, is_slice, is_unrefined, is_reader, is_writer, question_width, may_ask, fits, is_shift, continues, element_type, is_whole_number, well_part, well_slice, well_end}
 use Rattle.c_text.specs.CTree as tree
-use Rattle.c_meaning.specs.declared.values.Value.{Value}
-use Rattle.c_meaning.specs.declared.values.Value.TheVariants.{NullPointer as null_pointer}
+use Rattle.c_meaning.specs.declared.values.CValue.{CValue}
+use Rattle.c_meaning.specs.declared.values.CValue.TheVariants.{NullPointer as null_pointer}
 use Rattle.c_meaning.specs.CExprs.{Surroundings}
 use Rattle.wf_exprs.specs.Names.{Names, names_of}
 use Rattle.wf_exprs.specs.Words.{num, uint_of}
@@ -108,7 +108,7 @@ module _ (p : PackageTree) (m : MethodTree) (s : State) (x : Surroundings) (st :
 
   -- A slice is the same in C. The pointer of a part of an array is never null.
   pub record SliceGives (t : SliceTree) (cells : Span) : Type 0 where
-    pub at : Value
+    pub at : CValue
     pub is_pointer : GivesPointer x (lowered_slice names t).pointer (element_type t).bits at
     pub counts : IsNumber x (lowered_slice names t).length.code (lowered_slice names t).length.ty cells.count
     pub stands : SpanStands s x (element_type t).bits cells at

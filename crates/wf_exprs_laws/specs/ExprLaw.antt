@@ -17,8 +17,8 @@ use Rattle.wf_ast.specs.WellTyped.{type_at, variable_at, is_width, is_number, is
 use Rattle.c_text.specs.CTree.{ExprTree, member, text}
 use Rattle.c_meaning.specs.declared.cells.Cell.TheVariants.{Num as num}
 use Rattle.c_meaning.specs.declared.values.Pointer.{Pointer}
-use Rattle.c_meaning.specs.declared.values.Value.{Value}
-use Rattle.c_meaning.specs.declared.values.Value.TheVariants.{Numeric as numeric, Address as address, NullPointer as null_pointer}
+use Rattle.c_meaning.specs.declared.values.CValue.{CValue}
+use Rattle.c_meaning.specs.declared.values.CValue.TheVariants.{Numeric as numeric, Address as address, NullPointer as null_pointer}
 use Rattle.c_meaning.specs.CValues.{number, holds}
 use Rattle.c_meaning.specs.CMemory.{Memory, cell_of, loaded, offset}
 use Rattle.c_meaning.specs.CTypes.{cell, byte, ExprType, points_to, as_number, type_of, assignable}
@@ -39,18 +39,18 @@ pub record IsTheNumber (x : Surroundings) (e : ExprTree) (ty : CTy) (n : ℕ) : 
   pub fits : IsIn ty (pos n)
 
 -- An expression is a pointer to numbers of so many bits.
-pub record GivesPointer (x : Surroundings) (e : ExprTree) (bits : ℕ) (v : Value) : Type 0 where
+pub record GivesPointer (x : Surroundings) (e : ExprTree) (bits : ℕ) (v : CValue) : Type 0 where
   pub type : type_of x.scope e ≡ Some (points_to (cell (uint_of bits)))
   pub value : c.value x e ≡ Some v
 
 -- A null pointer, or the literal 0, which is assigned, passed and compared as one.
-abbrev pub IsNull : Value → Type 0
+abbrev pub IsNull : CValue → Type 0
 IsNull (numeric n) = n ≡ number Int 0
 IsNull (address p) = ⊥
 IsNull null_pointer = Unit {0}
 
 -- The value of a status: ok is null, and another one is the value of its own constant.
-abbrev pub IsStatusValue : Surroundings → (n : ℕ) → Value → Type 0
+abbrev pub IsStatusValue : Surroundings → (n : ℕ) → CValue → Type 0
 IsStatusValue x zero v = IsNull v
 IsStatusValue x (suc n) v = c.value x (status_constant (suc n)) ≡ Some v
 
@@ -59,22 +59,22 @@ pub record GivesStatus (x : Surroundings) (e : ExprTree) (n : ℕ) : Type 0 wher
   pub type : ExprType
   pub typed : type_of x.scope e ≡ Some type
   pub goes : assignable text type ≡ true
-  pub at : Value
+  pub at : CValue
   pub value : c.value x e ≡ Some at
   pub same : IsStatusValue x n at
 
 -- The cell that stands so many cells after a pointer.
-abbrev pub cell_behind : Memory → Value → (k : ℕ) → Option Value
+abbrev pub cell_behind : Memory → CValue → (k : ℕ) → Option CValue
 cell_behind memory (address p) k = option_and_then (loaded memory) (offset memory p (pos k))
 cell_behind memory v k = None
 
-abbrev pub IsInside : Memory → Value → (k : ℕ) → Type 0
+abbrev pub IsInside : Memory → CValue → (k : ℕ) → Type 0
 IsInside memory (address p) k = is_some (offset memory p (pos k)) ≡ true
 IsInside memory v k = ⊥
 
 -- A pointer stands for a slice: its elements follow it, and one may go as far as its end. It is null for the empty slice
 -- alone.
-pub record SpanStands (s : State) (x : Surroundings) (bits : ℕ) (cells : Span) (v : Value) : Type 0 where
+pub record SpanStands (s : State) (x : Surroundings) (bits : ℕ) (cells : Span) (v : CValue) : Type 0 where
   pub elements : (k n : ℕ) → element_of s cells k ≡ Some n → (n < 2 ^ bits) × (cell_behind x.memory v k ≡ Some (numeric (number (calculated bits) n)))
   pub fits : cells.count < 2 ^ 64
   pub empty : v ≡ null_pointer → cells.count ≡ 0
@@ -82,14 +82,14 @@ pub record SpanStands (s : State) (x : Surroundings) (bits : ℕ) (cells : Span)
 
 -- The two expressions of a slice stand for it.
 pub record PairStands (s : State) (x : Surroundings) (bits : ℕ) (cells : Span) (pointer length : ExprTree) (ty : CTy) : Type 0 where
-  pub at : Value
+  pub at : CValue
   pub is_pointer : GivesPointer x pointer bits at
   pub counts : GivesNumber x length ty cells.count
   pub stands : SpanStands s x bits cells at
 
 -- The expression of an array stands for it: a pointer that is never null. C counts so many elements in an `int`.
 pub record ArrayStands (s : State) (x : Surroundings) (bits count : ℕ) (cells : Span) (e : ExprTree) : Type 0 where
-  pub at : Value
+  pub at : CValue
   pub is_pointer : GivesPointer x e bits at
   pub counts : cells.count ≡ count
   pub few : count < 2 ^ 31
@@ -112,7 +112,7 @@ pub record BufferStands (names : Names) (x : Surroundings) (a : ℕ) (ty : Ty) (
   pub end : GivesNumber x (end_code names a) U64 (end_of ty b)
   pub position : GivesNumber x (member (io_code names a) (codes "pos")) U64 b.pos
   pub closed : GivesNumber x (member (io_code names a) (codes "closed")) Int (if b.closed then 1 else 0)
-  pub at : Value
+  pub at : CValue
   pub bytes : GivesPointer x (bytes_code names a) 8 at
   pub each : (k n : ℕ) → slice_get b.cells k ≡ Some n → cell_behind x.memory at k ≡ Some (numeric (number Int n))
 
@@ -219,7 +219,7 @@ pub record IsExprLaw : Type 0 where
       → GivesStatus x (lowered_status (names_of p m) t) n
   pub conditions : (p : PackageTree) (m : MethodTree) (s : State) (x : Surroundings) → Stands p m s x
       → (t : CondTree) (b : Bool) → DeclaresCond x t → well_cond (record { within = p; method = m }) t ≡ true → truth_of s t ≡ Some b
-      → (v : Value) × ((c.value x (lowered_cond (names_of p m) t) ≡ Some v) × (holds v ≡ b))
+      → (v : CValue) × ((c.value x (lowered_cond (names_of p m) t) ≡ Some v) × (holds v ≡ b))
 
 -- What is in a cell once a number was assigned to it: the number, where the cell's width holds it.
 abbrev pub IsStored : Type 0

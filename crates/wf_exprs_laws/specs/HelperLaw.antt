@@ -5,8 +5,8 @@ use Rattle.wf_num.specs.CArithmetic.{IsIn}
 use Rattle.wf_ast.specs.WellTyped.{is_width}
 use Rattle.c_text.specs.declared.kinds.Linkage.TheVariants.{StaticInline}
 use Rattle.c_text.specs.CTree.{ExprTree, finish, leave}
-use Rattle.c_meaning.specs.declared.values.Value.{Value}
-use Rattle.c_meaning.specs.declared.values.Value.TheVariants.{Numeric as numeric}
+use Rattle.c_meaning.specs.declared.values.CValue.{CValue}
+use Rattle.c_meaning.specs.declared.values.CValue.TheVariants.{Numeric as numeric}
 use Rattle.c_meaning.specs.CValues.{number}
 use Rattle.c_meaning.specs.CMemory.{Memory}
 use Rattle.c_meaning.specs.CTypes.{Function, functions_of, function_named}
@@ -39,6 +39,6 @@ pub record IsHelperLaw : Type 0 where
       → expression_meaning p (helper is_sum bits) callee memory (numeric (number ty m) ∷ numeric (number uy n) ∷ []) ≡ Some (numeric (number (calculated bits) (saturation is_sum bits m n)))
   pub in_expressions : (p : Program) (is_sum : Bool) (bits : ℕ) (callee : List ℕ → ExprMeaning) (x : Surroundings) → is_width bits ≡ true
       → function_named x.scope.functions (saturating_name is_sum bits) ≡ Some (helper is_sum bits)
-      → ((given : List Value) → x.called (saturating_name is_sum bits) given ≡ expression_meaning p (helper is_sum bits) callee x.memory given)
+      → ((given : List CValue) → x.called (saturating_name is_sum bits) given ≡ expression_meaning p (helper is_sum bits) callee x.memory given)
       → (e f : ExprTree) (ty uy : CTy) (m n : ℕ) → m < 2 ^ bits → n < 2 ^ bits → IsTheNumber x e ty m → IsTheNumber x f uy n
       → GivesNumber x (saturated is_sum bits e f) (calculated bits) (saturation is_sum bits m n)

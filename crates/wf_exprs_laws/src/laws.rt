@@ -1,6 +1,5 @@
 // The laws of expressions. Each is the contract of a function that does nothing.
 
-ghost use Rattle.std.specs.Prelude.{ℕ, ◌≡◌};
 ghost use Rattle.wf_exprs_laws.specs.ExprLaw.{IsExprLaw, IsStored};
 ghost use Rattle.wf_exprs_laws.specs.HelperLaw.{IsHelperLaw};
 

@@ -10,7 +10,7 @@ use Rattle.wf_ast.specs.declared.numbers.ExprId.{ExprId}
 use Rattle.wf_ast.specs.declared.types.Ty.{Ty}
 use Rattle.wf_ast.specs.declared.typed_nodes.TypedNodes.{TypedNodes}
 use Rattle.wf_ast.specs.TypedTree.{Arith, plus, minus, times, divided, remainder, shift_left, shift_right, bits_and, bits_or, bits_xor, mod_plus, mod_minus, mod_times, mod_shift_left, sat_plus, sat_minus, NumTree, ValueTree, link}
-use Rattle.wf_ast.specs.TypedTrees.{Sort, arithmetic, ordering, joining, num_in, num_chain, chain_of, num_type, tree_of}
+use Rattle.wf_ast.specs.TypedTrees.{OperatorKind, arithmetic, ordering, joining, num_in, num_chain, chain_of, num_type, tree_of}
 use Rattle.wf_ast.specs.NodeKinds.{node_number}
 use Rattle.wf_ast.specs.OperatorForms.{is_arithmetic}
 use Rattle.c_text.specs.CTree.{ExprTree, operation, Operands, no_operand, operand}
@@ -128,7 +128,7 @@ module _ (names : Names) where
       ∙ ap (λ e. chain_on names (arithmetic op) bits (rated e (calculated bits)) (map num_in ts)) (linked_apart op bits joined (lowered names so_far) (lowered names (num_in t)) r)
 
   -- The chain goes on from its first operand.
-  pub links_begin : (nodes : TypedNodes) (at : Place) (signs : List Place) (ty : Ty) (sort : Sort) (es : List ExprId) (d : ExprId) → is_arithmetic sort ≡ true → repeats sort ≡ false → 1 < length es
+  pub links_begin : (nodes : TypedNodes) (at : Place) (signs : List Place) (ty : Ty) (sort : OperatorKind) (es : List ExprId) (d : ExprId) → is_arithmetic sort ≡ true → repeats sort ≡ false → 1 < length es
       → chain_on names sort (num_type ty).bits (lowered names (node_number nodes (get_or es 0 d))) (map (node_number nodes) (drop 1 es)) ≡ lowered names (num_in (chain_of at signs ty sort (map (tree_of nodes) es)))
   links_begin nodes at signs ty (arithmetic op) [] d h r l = absurd (omega (arith, l))
   links_begin nodes at signs ty (arithmetic op) (e ∷ es) d h r l =
@@ -137,14 +137,14 @@ module _ (names : Names) where
   links_begin nodes at signs ty (ordering op) es d h r l = absurd (cc h)
   links_begin nodes at signs ty (joining both) es d h r l = absurd (cc h)
 
-  pub links_next : (nodes : TypedNodes) (sort : Sort) (bits : ℕ) (left next all : Rated) (es : List ExprId) (i : ℕ) (d : ExprId) → i < length es
+  pub links_next : (nodes : TypedNodes) (sort : OperatorKind) (bits : ℕ) (left next all : Rated) (es : List ExprId) (i : ℕ) (d : ExprId) → i < length es
       → chain_on names sort bits left (map (node_number nodes) (drop i es)) ≡ all → next ≡ rated (linked_by sort bits left (lowered names (node_number nodes (get_or es i d)))) (calculated bits)
       → chain_on names sort bits next (map (node_number nodes) (drop (i + 1) es)) ≡ all
   links_next nodes sort bits left next all es i d l h e =
       let P : List ExprId → Type 0 = λ xs. chain_on names sort bits left (map (node_number nodes) xs) ≡ all in
       ap (λ o. chain_on names sort bits o (map (node_number nodes) (drop (i + 1) es))) e ∙ subst P (drop_more es i d l) h
 
-  pub links_end : (nodes : TypedNodes) (sort : Sort) (bits : ℕ) (left all : Rated) (es : List ExprId) (i : ℕ) → length es ≤ i
+  pub links_end : (nodes : TypedNodes) (sort : OperatorKind) (bits : ℕ) (left all : Rated) (es : List ExprId) (i : ℕ) → length es ≤ i
       → chain_on names sort bits left (map (node_number nodes) (drop i es)) ≡ all → left ≡ all
   links_end nodes sort bits left all es i l h =
       let P : List ExprId → Type 0 = λ xs. chain_on names sort bits left (map (node_number nodes) xs) ≡ all in
@@ -172,7 +172,7 @@ module _ (names : Names) where
       (ap (λ e. rated e (calculated bits)) (linked_first op bits (lowered names a) (lowered names b) r))
 
   -- The whole chain as one operation.
-  pub one_operation : (nodes : TypedNodes) (at : Place) (signs : List Place) (ty : Ty) (sort : Sort) (es : List ExprId) (d : ExprId) → is_arithmetic sort ≡ true → repeats sort ≡ true → 1 < length es
+  pub one_operation : (nodes : TypedNodes) (at : Place) (signs : List Place) (ty : Ty) (sort : OperatorKind) (es : List ExprId) (d : ExprId) → is_arithmetic sort ≡ true → repeats sort ≡ true → 1 < length es
       → rated (operation (c_op sort) (balanced (num_type ty).bits (lowered names (node_number nodes (get_or es 0 d))) (lowered names (node_number nodes (get_or es 1 d)))) (lowered names (node_number nodes (get_or es 1 d))).code (numbers_behind names (map (node_number nodes) (drop 2 es)))) (calculated (num_type ty).bits)
       ≡ lowered names (num_in (chain_of at signs ty sort (map (tree_of nodes) es)))
   one_operation nodes at signs ty (arithmetic op) [] d h r l = absurd (omega (arith, l))
@@ -202,7 +202,7 @@ module _ (names : Names) where
       sym (appended_none so_far) ∙ subst P (drop_of_length-le es l) h
 
   -- The operation of what a unit has is the whole chain.
-  pub operation_is : (nodes : TypedNodes) (at : Place) (signs : List Place) (ty : Ty) (sort : Sort) (es : List ExprId) (d : ExprId) (u : Nodes) (first second : RatedNode) (others : List CExprId) (bits : ℕ)
+  pub operation_is : (nodes : TypedNodes) (at : Place) (signs : List Place) (ty : Ty) (sort : OperatorKind) (es : List ExprId) (d : ExprId) (u : Nodes) (first second : RatedNode) (others : List CExprId) (bits : ℕ)
       → is_arithmetic sort ≡ true → repeats sort ≡ true → 1 < length es → bits ≡ (num_type ty).bits
       → HasRated u first (lowered names (node_number nodes (get_or es 0 d))) → HasRated u second (lowered names (node_number nodes (get_or es 1 d))) → HasOperands u others (numbers_behind names (map (node_number nodes) (drop 2 es)))
       → rated (operation (c_op sort) (balanced bits (rated_in u first) (rated_in u second)) (expr_of u second.code.0) (operands_in (expr_of u) others)) (calculated bits) ≡ lowered names (num_in (chain_of at signs ty sort (map (tree_of nodes) es)))
@@ -214,7 +214,7 @@ module _ (names : Names) where
       ∙ one_operation nodes at signs ty sort es d h r l
 
   -- One link more of what a unit has.
-  pub link_is : (sort : Sort) (bits own : ℕ) (u : Nodes) (left right : RatedNode) (a b : Rated) → bits ≡ own → HasRated u left a → HasRated u right b
+  pub link_is : (sort : OperatorKind) (bits own : ℕ) (u : Nodes) (left right : RatedNode) (a b : Rated) → bits ≡ own → HasRated u left a → HasRated u right b
       → rated (linked_by sort bits (rated_in u left) (rated_in u right)) (calculated bits) ≡ rated (linked_by sort own a b) (calculated own)
   link_is sort bits own u left right a b w h k =
       ap (λ x. rated (linked_by sort x (rated_in u left) (rated_in u right)) (calculated x)) w

@@ -1,16 +1,14 @@
 -- What a chain of conditions and a comparison are in C.
-use Rattle.std.proofs.Common.{◌≡◌, ℕ, ◌+◌, ◌<◌, ◌≤◌, Bool, true, false, ◌&&◌, ◌||◌, List, [], ◌∷◌, length, map, drop, get_or, refl, sym, ap, ◌∙◌, subst, arith}
+use Rattle.std.proofs.Common.{◌≡◌, ℕ, ◌+◌, ◌<◌, ◌≤◌, Bool, true, false, List, [], ◌∷◌, length, map, drop, get_or, refl, sym, ap, ◌∙◌, subst, arith}
 use Rattle.wf_text.specs.declared.place.Place.{Place}
 use Rattle.wf_ast.specs.declared.numbers.ExprId.{ExprId}
 use Rattle.wf_ast.specs.declared.types.Ty.{Ty}
-use Rattle.wf_ast.specs.declared.types.Ty.TheVariants as types
 use Rattle.wf_ast.specs.declared.typed_nodes.TypedNodes.{TypedNodes}
-use Rattle.wf_ast.specs.TypedTree.{less, at_most, equal, differs, at_least, greater, CondTree, junction, ValueTree}
-use Rattle.wf_ast.specs.TypedTrees.{Sort, arithmetic, ordering, joining, num_in, cond_in, status_in, cond_chain, chain_of, comparison, first_sign, tree_of, type_of_node}
-use Rattle.wf_ast.specs.TypedInvariant.{is_expr, is_numeric, is_state, chain_fits, compares_kinds, is_tree_of}
-use Rattle.wf_ast.specs.NodeKinds.{is_number_at, is_status_at, node_cond}
+use Rattle.wf_ast.specs.TypedTree.{CondTree, junction, ValueTree}
+use Rattle.wf_ast.specs.TypedTrees.{OperatorKind, arithmetic, ordering, joining, num_in, cond_in, status_in, cond_chain, chain_of, comparison, first_sign, tree_of, type_of_node}
+use Rattle.wf_ast.specs.TypedInvariant.{is_state, chain_fits, compares_kinds, is_tree_of}
+use Rattle.wf_ast.specs.NodeKinds.{node_cond}
 use Rattle.wf_ast.specs.OperatorForms.{is_joining, is_ordering, is_equal, order_in}
-use Rattle.wf_ast.proofs.Arena.{both_true}
 use Rattle.wf_ast.proofs.ChainKinds.{operand_kinds, compares_numbers, compares_statuses}
 use Rattle.c_text.specs.CTree.{ExprTree, operation, Operands, no_operand}
 use Rattle.wf_exprs.specs.Names.{Names}
@@ -47,7 +45,7 @@ module _ (names : Names) where
   two_conditions at false a b = refl
 
   -- A chain of conditions is one operation.
-  pub one_junction : (nodes : TypedNodes) (at : Place) (signs : List Place) (ty : Ty) (sort : Sort) (es : List ExprId) (d : ExprId) → is_joining sort ≡ true → 1 < length es
+  pub one_junction : (nodes : TypedNodes) (at : Place) (signs : List Place) (ty : Ty) (sort : OperatorKind) (es : List ExprId) (d : ExprId) → is_joining sort ≡ true → 1 < length es
       → operation (c_op sort) (lowered_cond names (node_cond nodes (get_or es 0 d))) (lowered_cond names (node_cond nodes (get_or es 1 d))) (conditions_behind names (map (node_cond nodes) (drop 2 es)))
       ≡ lowered_cond names (cond_in (chain_of at signs ty sort (map (tree_of nodes) es)))
   one_junction nodes at signs ty (joining both) [] d j l = absurd (omega (arith, l))
@@ -71,7 +69,7 @@ module _ (names : Names) where
       sym (appended_none so_far) ∙ subst P (drop_of_length-le es l) h
 
   -- The operation of what a unit has is the whole chain.
-  pub junction_is : (nodes : TypedNodes) (at : Place) (signs : List Place) (ty : Ty) (sort : Sort) (es : List ExprId) (d : ExprId) (u : Nodes) (first second : CExprId) (others : List CExprId)
+  pub junction_is : (nodes : TypedNodes) (at : Place) (signs : List Place) (ty : Ty) (sort : OperatorKind) (es : List ExprId) (d : ExprId) (u : Nodes) (first second : CExprId) (others : List CExprId)
       → is_joining sort ≡ true → 1 < length es
       → HasExpr u first.0 (lowered_cond names (node_cond nodes (get_or es 0 d))) → HasExpr u second.0 (lowered_cond names (node_cond nodes (get_or es 1 d))) → HasOperands u others (conditions_behind names (map (node_cond nodes) (drop 2 es)))
       → operation (c_op sort) (expr_of u first.0) (expr_of u second.0) (operands_in (expr_of u) others) ≡ lowered_cond names (cond_in (chain_of at signs ty sort (map (tree_of nodes) es)))
@@ -82,14 +80,14 @@ module _ (names : Names) where
       ∙ one_junction nodes at signs ty sort es d j l
 
   -- Numbers.
-  pub numbers_compared : (at : Place) (signs : List Place) (ty tya : Ty) (sort : Sort) (a b : ValueTree) → is_ordering sort ≡ true → is_state tya ≡ false → is_tree_of tya a ≡ true
+  pub numbers_compared : (at : Place) (signs : List Place) (ty tya : Ty) (sort : OperatorKind) (a b : ValueTree) → is_ordering sort ≡ true → is_state tya ≡ false → is_tree_of tya a ≡ true
       → compared (order_in sort) (lowered_expr names (num_in a)) (lowered_expr names (num_in b)) ≡ lowered_cond names (cond_in (chain_of at signs ty sort (a ∷ b ∷ [])))
   numbers_compared at signs ty tya (ordering op) a b o h k = ap (λ t. lowered_cond names (cond_in t)) (sym (compares_numbers at (first_sign at signs) op a b tya h k))
   numbers_compared at signs ty tya (joining both) a b o h k = absurd (cc o)
   numbers_compared at signs ty tya (arithmetic op) a b o h k = absurd (cc o)
 
   -- Statuses.
-  pub statuses_as_one : (at : Place) (signs : List Place) (ty tya tyb : Ty) (sort : Sort) (a b : ValueTree) → is_ordering sort ≡ true → is_state tya ≡ true → is_tree_of tya a ≡ true → compares_kinds sort tya tyb ≡ true
+  pub statuses_as_one : (at : Place) (signs : List Place) (ty tya tyb : Ty) (sort : OperatorKind) (a b : ValueTree) → is_ordering sort ≡ true → is_state tya ≡ true → is_tree_of tya a ≡ true → compares_kinds sort tya tyb ≡ true
       → statuses_compared (is_equal (order_in sort)) names (status_in a) (status_in b) ≡ lowered_cond names (cond_in (chain_of at signs ty sort (a ∷ b ∷ [])))
   statuses_as_one at signs ty tya tyb (ordering op) a b o h k c =
       compares_statuses (λ op a. statuses_compared (is_equal op) names (status_in a) (status_in b) ≡ lowered_cond names (cond_in (comparison at (first_sign at signs) op a b))) (λ x. refl) (λ x. refl) op a tya tyb h k c
@@ -97,63 +95,8 @@ module _ (names : Names) where
   statuses_as_one at signs ty tya tyb (arithmetic op) a b o h k c = absurd (cc o)
 
 -- What is compared is of kinds that compare.
-pub compared_kinds : (nodes : TypedNodes) (ty : Ty) (sort : Sort) (es : List ExprId) (d : ExprId) → is_ordering sort ≡ true → chain_fits nodes sort es ty ≡ true
+pub compared_kinds : (nodes : TypedNodes) (ty : Ty) (sort : OperatorKind) (es : List ExprId) (d : ExprId) → is_ordering sort ≡ true → chain_fits nodes sort es ty ≡ true
     → compares_kinds sort (type_of_node nodes (get_or es 0 d).0) (type_of_node nodes (get_or es 1 d).0) ≡ true
 compared_kinds nodes ty (ordering op) es d o f = operand_kinds nodes ty op es d f
 compared_kinds nodes ty (joining both) es d o f = absurd (cc o)
 compared_kinds nodes ty (arithmetic op) es d o f = absurd (cc o)
-
-equal_state : (a b : Ty) → is_state a ≡ true → ((is_numeric a && is_numeric b) || (is_state a && is_state b)) ≡ true → is_state b ≡ true
-equal_state types.Status b s k = k
-equal_state (types.Num width lo hi) b s k = absurd (cc s)
-equal_state types.Flag b s k = absurd (cc s)
-equal_state types.Reader b s k = absurd (cc s)
-equal_state types.Writer b s k = absurd (cc s)
-equal_state (types.Slice width) b s k = absurd (cc s)
-equal_state (types.Array width lo hi count) b s k = absurd (cc s)
-equal_state (types.Part p) b s k = absurd (cc s)
-
-no_number_state : (a b : Ty) → is_state a ≡ true → (is_numeric a && is_numeric b) ≡ true → is_state b ≡ true
-no_number_state types.Status b s k = absurd (cc k)
-no_number_state (types.Num width lo hi) b s k = absurd (cc s)
-no_number_state types.Flag b s k = absurd (cc s)
-no_number_state types.Reader b s k = absurd (cc s)
-no_number_state types.Writer b s k = absurd (cc s)
-no_number_state (types.Slice width) b s k = absurd (cc s)
-no_number_state (types.Array width lo hi count) b s k = absurd (cc s)
-no_number_state (types.Part p) b s k = absurd (cc s)
-
-right_state : (sort : Sort) (a b : Ty) → is_state a ≡ true → compares_kinds sort a b ≡ true → is_state b ≡ true
-right_state (ordering equal) a b s k = equal_state a b s k
-right_state (ordering differs) a b s k = equal_state a b s k
-right_state (ordering less) a b s k = no_number_state a b s k
-right_state (ordering at_most) a b s k = no_number_state a b s k
-right_state (ordering at_least) a b s k = no_number_state a b s k
-right_state (ordering greater) a b s k = no_number_state a b s k
-right_state (arithmetic op) a b s k = no_number_state a b s k
-right_state (joining both) a b s k = no_number_state a b s k
-
-either_numeric : (x y z : Bool) → y ≡ false → (x || (y && z)) ≡ true → x ≡ true
-either_numeric true y z h k = refl
-either_numeric false true z h k = absurd (cc h)
-either_numeric false false z h k = absurd (cc k)
-
-both_numeric : (sort : Sort) (a b : Ty) → is_state a ≡ false → compares_kinds sort a b ≡ true → (is_numeric a ≡ true) × (is_numeric b ≡ true)
-both_numeric (ordering equal) a b s k = both_true (is_numeric a) (is_numeric b) (either_numeric (is_numeric a && is_numeric b) (is_state a) (is_state b) s k)
-both_numeric (ordering differs) a b s k = both_true (is_numeric a) (is_numeric b) (either_numeric (is_numeric a && is_numeric b) (is_state a) (is_state b) s k)
-both_numeric (ordering less) a b s k = both_true (is_numeric a) (is_numeric b) k
-both_numeric (ordering at_most) a b s k = both_true (is_numeric a) (is_numeric b) k
-both_numeric (ordering at_least) a b s k = both_true (is_numeric a) (is_numeric b) k
-both_numeric (ordering greater) a b s k = both_true (is_numeric a) (is_numeric b) k
-both_numeric (arithmetic op) a b s k = both_true (is_numeric a) (is_numeric b) k
-both_numeric (joining both) a b s k = both_true (is_numeric a) (is_numeric b) k
-
--- Of what compares, both are statuses or both are numbers.
-pub both_statuses : (nodes : TypedNodes) (sort : Sort) (a b : ExprId) → is_expr nodes b ≡ true → is_state (type_of_node nodes a.0) ≡ true → compares_kinds sort (type_of_node nodes a.0) (type_of_node nodes b.0) ≡ true → is_status_at nodes b ≡ true
-both_statuses nodes sort a b e s k = rw e (right_state sort (type_of_node nodes a.0) (type_of_node nodes b.0) s k)
-
-pub left_number : (nodes : TypedNodes) (sort : Sort) (a b : ExprId) → is_expr nodes a ≡ true → is_state (type_of_node nodes a.0) ≡ false → compares_kinds sort (type_of_node nodes a.0) (type_of_node nodes b.0) ≡ true → is_number_at nodes a ≡ true
-left_number nodes sort a b e s k = rw e (both_numeric sort (type_of_node nodes a.0) (type_of_node nodes b.0) s k).0
-
-pub right_number : (nodes : TypedNodes) (sort : Sort) (a b : ExprId) → is_expr nodes b ≡ true → is_state (type_of_node nodes a.0) ≡ false → compares_kinds sort (type_of_node nodes a.0) (type_of_node nodes b.0) ≡ true → is_number_at nodes b ≡ true
-right_number nodes sort a b e s k = rw e (both_numeric sort (type_of_node nodes a.0) (type_of_node nodes b.0) s k).1

@@ -148,10 +148,6 @@ pub shared_made : (old new : Nodes) (x : CStmt) (r : Result CStmtId NoMemory) �
 shared_made old new x (Ok id) ok = record { there = ok.there; is = ok.is }
 shared_made old new x (Err refused) ok = ok
 
-pub code_as : (a : Nodes) (code other : Code) (r : Result CStmtId NoMemory) → code ≡ other → IfOk r (λ s. HasCode a s.0 code) → IfOk r (λ s. HasCode a s.0 other)
-code_as a code other (Ok s) same h = record { there = h.there; is = h.is ∙ same }
-code_as a code other (Err refused) same h = h
-
 pub code_kept : {a b : Nodes} (s : ℕ) (code : Code) → Grows a b → HasCode a s code → HasCode b s code
 code_kept s code g h = record { there = g.more_stmts s h.there; is = g.stmts s h.there ∙ h.is }
 

@@ -1,30 +1,27 @@
 -- The kinds of what stands inside a node.
-use Rattle.std.proofs.Common.{◌≡◌, ℕ, ◌<◌, Bool, ◌||◌, true, false, List, length, nat_lt, refl, arith}
+use Rattle.std.proofs.Common.{◌≡◌, ℕ, ◌<◌, true, false, List, length, nat_lt, refl, arith}
 use Rattle.std.specs.List.{list_all}
 use Rattle.std.proofs.lemmas.Bool.Decides.{nat_tests}
 use Rattle.wf_ast.specs.declared.numbers.ExprId.{ExprId}
 use Rattle.wf_ast.specs.declared.types.Ty.{Ty}
-use Rattle.wf_ast.specs.declared.types.Ty.TheVariants as types
 use Rattle.wf_ast.specs.declared.typed_nodes.TypedNodes.{TypedNodes}
-use Rattle.wf_ast.specs.declared.typed_code.Expr.{Expr}
-use Rattle.wf_ast.specs.declared.typed_code.Expr.TheVariants as exprs
 use Rattle.wf_base.specs.declared.base_methods.Gives.{Gives}
 use Rattle.wf_base.specs.declared.base_methods.Gives.TheVariants as gives
 use Rattle.wf_base.specs.declared.marks.Mark.TheVariants.{Pure}
 use Rattle.wf_base.specs.declared.base_methods.BaseSig.{BaseSig}
 use Rattle.wf_base.specs.BaseTable.{row_of}
 use Rattle.wf_ast.specs.WellTyped.{same_mark}
-use Rattle.wf_ast.specs.TypedTrees.{Sort, arithmetic, ordering, joining, sort_of, type_of_node}
-use Rattle.wf_ast.specs.TypedInvariant.{is_expr, is_numeric, is_logical, is_state, is_list, is_io, is_given, has_kind, chain_fits, kind_fits}
+use Rattle.wf_ast.specs.TypedTrees.{OperatorKind, arithmetic, ordering, joining, type_of_node}
+use Rattle.wf_ast.specs.TypedInvariant.{is_expr, is_numeric, is_logical, is_state, is_list, is_given, chain_fits}
 use Rattle.wf_ast.specs.NodeKinds.{is_number_at, is_condition_at}
 use Rattle.wf_ast.specs.OperatorForms.{is_arithmetic, is_joining, is_ordering}
 use Rattle.wf_ast.proofs.Arena.{both_true}
-use Rattle.wf_ast.proofs.ChainKinds.{gives_number, junction_gives_condition, comparison_gives_condition, no_slice_chain, no_status_chain, numeric_operands, logical_operands}
-use Rattle.wf_ast.proofs.TypeKinds.{number_no_condition, list_no_condition, list_no_number, list_no_state, state_no_condition, state_no_number}
-use Rattle.wf_exprs_nodes.specs.Trees.{answers_number, answers_truth, gives_flag, is_num}
+use Rattle.wf_ast.proofs.ChainKinds.{gives_number, junction_gives_condition, comparison_gives_condition, numeric_operands, logical_operands}
+use Rattle.wf_ast.proofs.TypeKinds.{number_no_condition, list_no_condition, list_no_number, state_no_condition, state_no_number}
+use Rattle.wf_exprs_nodes.specs.Trees.{answers_number, is_num}
 
 -- A chain that gives a number is arithmetic, and has at least two operands, which are numbers that stand before it.
-pub record IsOfNumbers (nodes : TypedNodes) (sort : Sort) (es : List ExprId) : Type 0 where
+pub record IsOfNumbers (nodes : TypedNodes) (sort : OperatorKind) (es : List ExprId) : Type 0 where
   pub arithmetic_sort : is_arithmetic sort ≡ true
   pub numbers : list_all (is_number_at nodes) es ≡ true
   pub some : 1 < length es
@@ -34,7 +31,7 @@ pub record IsOfConditions (nodes : TypedNodes) (es : List ExprId) : Type 0 where
   pub conditions : list_all (is_condition_at nodes) es ≡ true
   pub some : 1 < length es
 
-pub of_numbers : (nodes : TypedNodes) (n : ℕ) (ty : Ty) (sort : Sort) (es : List ExprId) → n < length nodes.exprs → is_numeric ty ≡ true → chain_fits nodes sort es ty ≡ true
+pub of_numbers : (nodes : TypedNodes) (n : ℕ) (ty : Ty) (sort : OperatorKind) (es : List ExprId) → n < length nodes.exprs → is_numeric ty ≡ true → chain_fits nodes sort es ty ≡ true
     → list_all (λ p. nat_lt p.0 n) es ≡ true → IsOfNumbers nodes sort es
 of_numbers nodes n ty (arithmetic op) es l h f b =
     let operands = numeric_operands nodes n ty op es l f b in
@@ -42,7 +39,7 @@ of_numbers nodes n ty (arithmetic op) es l h f b =
 of_numbers nodes n ty (joining both) es l h f b = absurd (number_no_condition ty h (junction_gives_condition nodes both es ty f))
 of_numbers nodes n ty (ordering op) es l h f b = absurd (number_no_condition ty h (comparison_gives_condition nodes op es ty f))
 
-pub of_conditions : (nodes : TypedNodes) (n : ℕ) (ty : Ty) (sort : Sort) (es : List ExprId) → n < length nodes.exprs → is_joining sort ≡ true → chain_fits nodes sort es ty ≡ true
+pub of_conditions : (nodes : TypedNodes) (n : ℕ) (ty : Ty) (sort : OperatorKind) (es : List ExprId) → n < length nodes.exprs → is_joining sort ≡ true → chain_fits nodes sort es ty ≡ true
     → list_all (λ p. nat_lt p.0 n) es ≡ true → IsOfConditions nodes es
 of_conditions nodes n ty (joining both) es l j f b =
     let operands = logical_operands nodes n ty both es l f b in
@@ -50,7 +47,7 @@ of_conditions nodes n ty (joining both) es l j f b =
 of_conditions nodes n ty (arithmetic op) es l j f b = absurd (cc j)
 of_conditions nodes n ty (ordering op) es l j f b = absurd (cc j)
 
-pub of_comparison : (nodes : TypedNodes) (ty : Ty) (sort : Sort) (es : List ExprId) → is_logical ty ≡ true → is_joining sort ≡ false → chain_fits nodes sort es ty ≡ true → is_ordering sort ≡ true
+pub of_comparison : (nodes : TypedNodes) (ty : Ty) (sort : OperatorKind) (es : List ExprId) → is_logical ty ≡ true → is_joining sort ≡ false → chain_fits nodes sort es ty ≡ true → is_ordering sort ≡ true
 of_comparison nodes ty (ordering op) es h j f = refl
 of_comparison nodes ty (joining both) es h j f = absurd (cc j)
 of_comparison nodes ty (arithmetic op) es h j f = absurd (number_no_condition ty (gives_number nodes op es ty f) h)
@@ -67,77 +64,15 @@ given_number (gives.Num width) ty h k = refl
 given_number gives.Flag ty h k = absurd (number_no_condition ty k h)
 given_number gives.Nothing ty h k = absurd (cc h)
 
-pub given_flag : (g : Gives) (ty : Ty) → is_given g ty ≡ true → is_logical ty ≡ true → gives_flag g ≡ true
-given_flag (gives.Num width) ty h k = absurd (number_no_condition ty h k)
-given_flag gives.Flag ty h k = refl
-given_flag gives.Nothing ty h k = absurd (cc h)
-
--- What makes a slice: a variable or a part; and a status: a constant or a variable.
-abbrev pub makes_slice : Expr → Bool
-makes_slice (exprs.Local x) = true
-makes_slice (exprs.Field x) = true
-makes_slice (exprs.Arg x) = true
-makes_slice (exprs.Cut base from to) = true
-makes_slice x = false
-
 pub list_given : (g : Gives) (ty : Ty) → is_list ty ≡ true → is_given g ty ≡ true → ⊥
 list_given (gives.Num width) ty h k = list_no_number ty h k
 list_given gives.Flag ty h k = list_no_condition ty h k
 list_given gives.Nothing ty h k = cc k
-
-pub slice_made : (nodes : TypedNodes) (ty : Ty) (x : Expr) → is_list ty ≡ true → kind_fits nodes ty x ≡ true → makes_slice x ≡ true
-slice_made nodes ty (exprs.Number value) h f = absurd (cc f)
-slice_made nodes ty (exprs.Const k) h f = absurd (cc f)
-slice_made nodes ty (exprs.Status s) h f = absurd (list_no_state ty h (both_true (is_state ty) _ f).0)
-slice_made nodes ty (exprs.Truth value) h f = absurd (list_no_condition ty h f)
-slice_made nodes ty (exprs.Local x) h f = refl
-slice_made nodes ty (exprs.Field x) h f = refl
-slice_made nodes ty (exprs.Arg x) h f = refl
-slice_made nodes ty (exprs.Index base index) h f = absurd (list_no_number ty h (both_true (is_numeric ty) _ f).0)
-slice_made nodes ty (exprs.Cut base from to) h f = refl
-slice_made nodes ty (exprs.Chain op parts) h f = absurd (no_slice_chain nodes ty (sort_of op) parts h f)
-slice_made nodes ty (exprs.Convert of to) h f = absurd (list_no_number ty h (both_true (is_numeric ty) _ f).0)
-slice_made nodes ty (exprs.Not of) h f = absurd (list_no_condition ty h (both_true (is_logical ty) _ f).0)
-slice_made nodes ty (exprs.Base on sig) h f = absurd (list_given (row_of sig).gives ty h (both_true (has_kind (row_of sig).on (type_of_node nodes on.0)) _ (both_true (same_mark (row_of sig).mark Pure) _ f).1).1)
-
-abbrev pub makes_status : Expr → Bool
-makes_status (exprs.Status s) = true
-makes_status (exprs.Local x) = true
-makes_status (exprs.Field x) = true
-makes_status x = false
 
 pub state_given : (g : Gives) (ty : Ty) → is_state ty ≡ true → is_given g ty ≡ true → ⊥
 state_given (gives.Num width) ty h k = state_no_number ty h k
 state_given gives.Flag ty h k = state_no_condition ty h k
 state_given gives.Nothing ty h k = cc k
 
-state_no_arg : (ty : Ty) → is_state ty ≡ true → (is_numeric ty || (is_logical ty || (is_list ty || is_io ty))) ≡ true → ⊥
-state_no_arg types.Status h k = cc k
-state_no_arg (types.Num width lo hi) h k = cc h
-state_no_arg types.Flag h k = cc h
-state_no_arg types.Reader h k = cc h
-state_no_arg types.Writer h k = cc h
-state_no_arg (types.Slice width) h k = cc h
-state_no_arg (types.Array width lo hi count) h k = cc h
-state_no_arg (types.Part s) h k = cc h
-
-pub status_made : (nodes : TypedNodes) (ty : Ty) (x : Expr) → is_state ty ≡ true → kind_fits nodes ty x ≡ true → makes_status x ≡ true
-status_made nodes ty (exprs.Number value) h f = absurd (cc f)
-status_made nodes ty (exprs.Const k) h f = absurd (cc f)
-status_made nodes ty (exprs.Status s) h f = refl
-status_made nodes ty (exprs.Truth value) h f = absurd (state_no_condition ty h f)
-status_made nodes ty (exprs.Local x) h f = refl
-status_made nodes ty (exprs.Field x) h f = refl
-status_made nodes ty (exprs.Arg x) h f = absurd (state_no_arg ty h f)
-status_made nodes ty (exprs.Index base index) h f = absurd (state_no_number ty h (both_true (is_numeric ty) _ f).0)
-status_made nodes ty (exprs.Cut base from to) h f = absurd (list_no_state ty (both_true (is_list ty) _ f).0 h)
-status_made nodes ty (exprs.Chain op parts) h f = absurd (no_status_chain nodes ty (sort_of op) parts h f)
-status_made nodes ty (exprs.Convert of to) h f = absurd (state_no_number ty h (both_true (is_numeric ty) _ f).0)
-status_made nodes ty (exprs.Not of) h f = absurd (state_no_condition ty h (both_true (is_logical ty) _ f).0)
-status_made nodes ty (exprs.Base on sig) h f = absurd (state_given (row_of sig).gives ty h (both_true (has_kind (row_of sig).on (type_of_node nodes on.0)) _ (both_true (same_mark (row_of sig).mark Pure) _ f).1).1)
-
 pub answers_a_number : (sig : BaseSig) (ty : Ty) → same_mark (row_of sig).mark Pure ≡ true → is_given (row_of sig).gives ty ≡ true → is_numeric ty ≡ true → answers_number sig ≡ true
 answers_a_number sig ty m g h = rw (given_number (row_of sig).gives ty g h) m
-
-pub answers_a_flag : (sig : BaseSig) (ty : Ty) → same_mark (row_of sig).mark Pure ≡ true → is_given (row_of sig).gives ty ≡ true → is_logical ty ≡ true → answers_truth sig ≡ true
-answers_a_flag sig ty m g h = rw (given_flag (row_of sig).gives ty g h) m

@@ -9,7 +9,7 @@ use Rattle.wf_ast.specs.WellTyped.{same_mark}
 use Rattle.wf_ast.specs.declared.types.Ty.{Ty}
 use Rattle.wf_ast.specs.declared.types.Ty.TheVariants as types
 use Rattle.wf_ast.specs.TypedTree.{Arith, plus, times, bits_and, bits_or, bits_xor, NumTree, CondTree, ValueTree, numeric, logical, state}
-use Rattle.wf_ast.specs.TypedTrees.{Sort, arithmetic, ordering, joining, num_in}
+use Rattle.wf_ast.specs.TypedTrees.{OperatorKind, arithmetic, ordering, joining, num_in}
 use Rattle.c_text.specs.declared.ids.CExprId.{CExprId}
 use Rattle.c_text.specs.CNodes.{Nodes}
 use Rattle.c_text.specs.CTree.{ExprTree, cast, Operands, no_operand, operand}
@@ -36,13 +36,13 @@ repeats_arith bits_or = true
 repeats_arith bits_xor = true
 repeats_arith op = false
 
-abbrev pub repeats : Sort → Bool
+abbrev pub repeats : OperatorKind → Bool
 repeats (arithmetic op) = repeats_arith op
 repeats (joining both) = true
 repeats (ordering op) = false
 
 -- A chain on from what stands left of it, operand by operand.
-abbrev pub chain_on : Names → Sort → (bits : ℕ) → Rated → List NumTree → Rated
+abbrev pub chain_on : Names → OperatorKind → (bits : ℕ) → Rated → List NumTree → Rated
 chain_on names sort bits left [] = left
 chain_on names sort bits left (t ∷ ts) = chain_on names sort bits (rated (linked_by sort bits left (lowered names t)) (calculated bits)) ts
 

@@ -1,10 +1,7 @@
 // What a reader or a writer is asked for.
 
-ghost use Rattle.std.specs.Prelude.{◌≡◌, ◌<◌, true, length, IsTrue, IfOk};
+ghost use Rattle.std.specs.Prelude.{◌<◌, true, length, IfOk};
 ghost use Rattle.wf_base.specs.BaseTable.{bits_of};
-ghost use Rattle.wf_ast.specs.TypedInvariant.{is_expr, is_io};
-ghost use Rattle.wf_ast.specs.TypedTree.{arg};
-ghost use Rattle.wf_ast.specs.TypedTrees.{io_in, named, place_of_node, tree_of, type_of_node};
 ghost use Rattle.c_text.specs.CNodes.{expr_of};
 ghost use Rattle.wf_exprs.specs.Exprs.{peek_code, peeked as peeked_code, position_code, raised as raised_code, there as there_code, rated};
 ghost use Rattle.wf_exprs.specs.Grown.{Grows, HasExpr};
@@ -19,12 +16,12 @@ use wf_ast::{ArgId, Expr, ExprId, Op, Ty, Typed};
 use wf_base::{PeekForm, Width};
 use wf_exprs::nodes::{cast, element, number, two};
 use wf_exprs::rated::saturated;
-use wf_exprs::{Rated, Scope};
+use wf_exprs::{BodyNames, Rated};
 use wf_num::CTy;
 use wf_text::NoMemory;
 
 /// How many bytes of a reader are unread, or can still be written to a writer: `(e_src - p_src)`.
-pub fn there(scope: &Scope, u: &mut Unit, a: u32) -> Result<CExprId, NoMemory>
+pub fn there(scope: &BodyNames, u: &mut Unit, a: u32) -> Result<CExprId, NoMemory>
     ensures grows { Grows u.old u.new }
     ensures made { IfOk result (λ it. HasExpr u.new it.0 (there_code scope.now.names a)) }
 {
@@ -34,7 +31,7 @@ pub fn there(scope: &Scope, u: &mut Unit, a: u32) -> Result<CExprId, NoMemory>
 }
 
 /// The same as a number.
-pub(crate) fn bytes_left(scope: &Scope, u: &mut Unit, a: u32) -> Result<Rated, NoMemory>
+pub(crate) fn bytes_left(scope: &BodyNames, u: &mut Unit, a: u32) -> Result<Rated, NoMemory>
     ensures grows { Grows u.old u.new }
     ensures made { IfOk result (λ it. HasRated u.new it (rated (there_code scope.now.names a) U64)) }
 {
@@ -44,7 +41,7 @@ pub(crate) fn bytes_left(scope: &Scope, u: &mut Unit, a: u32) -> Result<Rated, N
 
 /// The place in the stream.
 #[tactic(auto, unfolding(c_text::specs::CSpelling::is_reserved))]
-pub(crate) fn position(scope: &Scope, u: &mut Unit, a: u32) -> Result<Rated, NoMemory>
+pub(crate) fn position(scope: &BodyNames, u: &mut Unit, a: u32) -> Result<Rated, NoMemory>
     ensures grows { Grows u.old u.new }
     ensures made { IfOk result (λ it. HasRated u.new it (rated (position_code scope.now.names a) U64)) }
 {
@@ -55,7 +52,7 @@ pub(crate) fn position(scope: &Scope, u: &mut Unit, a: u32) -> Result<Rated, NoM
 }
 
 // The place of the next byte but k.
-fn place_behind(scope: &Scope, u: &mut Unit, a: u32, k: u32) -> Result<CExprId, NoMemory>
+fn place_behind(scope: &BodyNames, u: &mut Unit, a: u32, k: u32) -> Result<CExprId, NoMemory>
     ensures grows { Grows u.old u.new }
     ensures made { IfOk result (λ it. HasExpr u.new it.0 (place_behind_code scope.now.names a k)) }
 {
@@ -68,7 +65,7 @@ fn place_behind(scope: &Scope, u: &mut Unit, a: u32, k: u32) -> Result<CExprId, 
 }
 
 /// The next byte but k.
-pub(crate) fn peeked(scope: &Scope, u: &mut Unit, a: u32, k: u32) -> Result<CExprId, NoMemory>
+pub(crate) fn peeked(scope: &BodyNames, u: &mut Unit, a: u32, k: u32) -> Result<CExprId, NoMemory>
     ensures grows { Grows u.old u.new }
     ensures made { IfOk result (λ it. HasExpr u.new it.0 (peeked_code scope.now.names a k)) }
 {
@@ -90,7 +87,13 @@ fn widened(u: &mut Unit, width: Width, e: CExprId) -> Result<CExprId, NoMemory>
 }
 
 // The next byte but k, moved up by so many bytes within a number of this width.
-fn raised(scope: &Scope, u: &mut Unit, width: Width, a: u32, k: u32) -> Result<CExprId, NoMemory>
+fn raised(
+    scope: &BodyNames,
+    u: &mut Unit,
+    width: Width,
+    a: u32,
+    k: u32,
+) -> Result<CExprId, NoMemory>
     requires { k < 8 }
     ensures grows { Grows u.old u.new }
     ensures made { IfOk result (λ it. HasExpr u.new it.0 (raised_code (bits_of width) k (peeked_code scope.now.names a k))) }
@@ -103,7 +106,7 @@ fn raised(scope: &Scope, u: &mut Unit, width: Width, a: u32, k: u32) -> Result<C
 
 // The number that the next bytes spell, the lowest first.
 
-fn peeked_two(scope: &Scope, u: &mut Unit, a: u32) -> Result<CExprId, NoMemory>
+fn peeked_two(scope: &BodyNames, u: &mut Unit, a: u32) -> Result<CExprId, NoMemory>
     ensures grows { Grows u.old u.new }
     ensures made { IfOk result (λ it. HasExpr u.new it.0 (peek_code scope.now.names a PeekU16Le).code) }
 {
@@ -112,7 +115,7 @@ fn peeked_two(scope: &Scope, u: &mut Unit, a: u32) -> Result<CExprId, NoMemory>
     two(scope.alloc(), u, COp::Add, low, high)
 }
 
-fn higher_two(scope: &Scope, u: &mut Unit, a: u32) -> Result<CList<CExprId>, NoMemory>
+fn higher_two(scope: &BodyNames, u: &mut Unit, a: u32) -> Result<CList<CExprId>, NoMemory>
     ensures grows { Grows u.old u.new }
     ensures made { IfOk result (λ list. HasOperands u.new list (higher_bytes scope.now.names a)) }
 {
@@ -121,7 +124,7 @@ fn higher_two(scope: &Scope, u: &mut Unit, a: u32) -> Result<CList<CExprId>, NoM
     CList::from_slice(scope.alloc(), &[third, fourth])
 }
 
-fn peeked_four(scope: &Scope, u: &mut Unit, a: u32) -> Result<CExprId, NoMemory>
+fn peeked_four(scope: &BodyNames, u: &mut Unit, a: u32) -> Result<CExprId, NoMemory>
     ensures grows { Grows u.old u.new }
     ensures made { IfOk result (λ it. HasExpr u.new it.0 (peek_code scope.now.names a PeekU32Le).code) }
 {
@@ -132,7 +135,12 @@ fn peeked_four(scope: &Scope, u: &mut Unit, a: u32) -> Result<CExprId, NoMemory>
 }
 
 /// What a peek sees.
-pub(crate) fn peek(scope: &Scope, u: &mut Unit, a: u32, form: PeekForm) -> Result<Rated, NoMemory>
+pub(crate) fn peek(
+    scope: &BodyNames,
+    u: &mut Unit,
+    a: u32,
+    form: PeekForm,
+) -> Result<Rated, NoMemory>
     ensures grows { Grows u.old u.new }
     ensures made { IfOk result (λ it. HasRated u.new it (peek_code scope.now.names a form)) }
 {

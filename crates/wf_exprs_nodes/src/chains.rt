@@ -2,7 +2,7 @@
 
 ghost use Rattle.std.specs.Prelude.{◌≡◌, ◌<◌, true, length, IsTrue, IfOk};
 ghost use Rattle.wf_base.specs.BaseTable.{bits_of};
-ghost use Rattle.wf_ast.specs.TypedTrees.{sort_of};
+ghost use Rattle.wf_ast.specs.TypedTrees.{operator_kind};
 ghost use Rattle.wf_ast.specs.OperatorForms.{is_joining};
 ghost use Rattle.c_text.specs.CFits.{HasExprs};
 ghost use Rattle.c_text.specs.CNodes.{expr_of, operands_in};
@@ -23,7 +23,7 @@ use wf_text::NoMemory;
 
 /// Whether a chain of this operator is one operation of C.
 pub(crate) fn repeats(op: Op) -> bool
-    ensures { result ≡ repeats_sort (sort_of op) }
+    ensures { result ≡ repeats_sort (operator_kind op) }
 {
     match op {
         Op::Add | Op::Mul | Op::BitAnd | Op::BitOr | Op::BitXor => true,
@@ -38,7 +38,7 @@ pub(crate) fn repeats(op: Op) -> bool
 
 /// Whether an operator joins conditions.
 pub(crate) fn joins(op: Op) -> bool
-    ensures { result ≡ is_joining (sort_of op) }
+    ensures { result ≡ is_joining (operator_kind op) }
 {
     match op {
         Op::And | Op::Or => true,
@@ -59,12 +59,12 @@ pub(crate) fn operation(
     second: CExprId,
     others: CList<CExprId>,
 ) -> Result<CExprId, NoMemory>
-    requires repeats { IsTrue (repeats_sort (sort_of op)) }
+    requires repeats { IsTrue (repeats_sort (operator_kind op)) }
     requires first { first.0 < length u.old.exprs }
     requires second { second.0 < length u.old.exprs }
     requires others { HasExprs (length u.old.exprs) others }
     ensures grows { Grows u.old u.new }
-    ensures made { IfOk result (λ it. HasExpr u.new it.0 (c.operation (c_op (sort_of op)) (expr_of u.old first.0) (expr_of u.old second.0) (operands_in (expr_of u.old) others))) }
+    ensures made { IfOk result (λ it. HasExpr u.new it.0 (c.operation (c_op (operator_kind op)) (expr_of u.old first.0) (expr_of u.old second.0) (operands_in (expr_of u.old) others))) }
 {
     put(
         u,
@@ -86,12 +86,12 @@ pub(crate) fn number_operation(
     second: Rated,
     others: CList<CExprId>,
 ) -> Result<Rated, NoMemory>
-    requires repeats { IsTrue (repeats_sort (sort_of op)) }
+    requires repeats { IsTrue (repeats_sort (operator_kind op)) }
     requires first { first.code.0 < length u.old.exprs }
     requires second { second.code.0 < length u.old.exprs }
     requires others { HasExprs (length u.old.exprs) others }
     ensures grows { Grows u.old u.new }
-    ensures made { IfOk result (λ it. HasRated u.new it (rated (c.operation (c_op (sort_of op)) (balanced_code (bits_of width) (rated_in u.old first) (rated_in u.old second)) (expr_of u.old second.code.0) (operands_in (expr_of u.old) others)) (calculated_of (bits_of width)))) }
+    ensures made { IfOk result (λ it. HasRated u.new it (rated (c.operation (c_op (operator_kind op)) (balanced_code (bits_of width) (rated_in u.old first) (rated_in u.old second)) (expr_of u.old second.code.0) (operands_in (expr_of u.old) others)) (calculated_of (bits_of width)))) }
 {
     let left = balanced(u, width, first, second)?;
     let code = operation(u, op, left, second.code, others)?;
@@ -113,7 +113,7 @@ pub(crate) fn link(
     requires first { a.code.0 < length u.old.exprs }
     requires second { b.code.0 < length u.old.exprs }
     ensures grows { Grows u.old u.new }
-    ensures made { IfOk result (λ it. HasRated u.new it (rated (linked_by (sort_of op) (bits_of width) (rated_in u.old a) (rated_in u.old b)) (calculated_of (bits_of width)))) }
+    ensures made { IfOk result (λ it. HasRated u.new it (rated (linked_by (operator_kind op) (bits_of width) (rated_in u.old a) (rated_in u.old b)) (calculated_of (bits_of width)))) }
 {
     let code = linked(alloc, u, op, width, a, b)?;
     Ok(Rated {

@@ -3,16 +3,16 @@
 ghost use Rattle.std.specs.Prelude.{◌≡◌, ◌<◌, ◌∷◌, [], true, false, nat_lt, length, map, IsTrue, IfOk, if◌then◌else◌};
 ghost use Rattle.std.specs.List.{list_all};
 ghost use Rattle.wf_base.specs.BaseTable.{row_of};
-ghost use Rattle.wf_ast.specs.TypedTree.{closed, has_category, negation};
-ghost use Rattle.wf_ast.specs.TypedTrees.{answer_of, chain_of, cond_in, io_in, named, place_of_node, signs_of_node, sort_of, tree_of, type_of_node};
-ghost use Rattle.wf_ast.specs.TypedInvariant.{chain_fits, compares_kinds, has_kind, is_expr, is_io, is_state, is_tree_of};
+ghost use Rattle.wf_ast.specs.TypedTree.{closed, negation};
+ghost use Rattle.wf_ast.specs.TypedTrees.{answer_of, chain_of, named, place_of_node, signs_of_node, operator_kind, tree_of, type_of_node};
+ghost use Rattle.wf_ast.specs.TypedInvariant.{chain_fits, compares_kinds, has_kind, is_expr, is_state, is_tree_of};
 ghost use Rattle.wf_ast.specs.NodeKinds.{is_condition_at, is_number_at, is_status_at, node_cond, node_number, node_status};
 ghost use Rattle.wf_ast.specs.OperatorForms.{is_equal, is_joining, is_ordering, order_in};
 ghost use Rattle.c_text.specs.CNodes.{expr_of};
 ghost use Rattle.c_text.specs.CTree as c;
 ghost use Rattle.c_text.specs.declared.kinds.COp.TheVariants.{Ne};
 ghost use Rattle.c_text.specs.declared.kinds.CUnary.TheVariants.{Not};
-ghost use Rattle.wf_exprs.specs.Exprs.{category_code, compared as compared_code, io_code, lowered_cond, lowered_expr, lowered_status, same_code, statuses_compared as statuses_compared_code};
+ghost use Rattle.wf_exprs.specs.Exprs.{category_code, compared as compared_code, lowered_cond, lowered_expr, lowered_status, same_code, statuses_compared as statuses_compared_code};
 ghost use Rattle.wf_exprs.specs.Grown.{Grows, HasExpr};
 ghost use Rattle.wf_exprs.specs.Scopes.{path_of};
 ghost use Rattle.wf_exprs.specs.Words.{num, two as two_trees};
@@ -27,12 +27,12 @@ use wf_ast::{Expr, ExprId, Op, Ty, Typed, io_arg};
 use wf_base::BaseSig;
 use wf_exprs::nodes::{is_held, is_literal, negated, two};
 use wf_exprs::rated::op_of;
-use wf_exprs::{Path, Scope};
+use wf_exprs::{BodyNames, Path};
 use wf_text::{Category, NoMemory};
 
 /// A condition.
 #[cycle(conditions)]
-pub fn condition(scope: &Scope, u: &mut Unit, e: ExprId) -> Result<CExprId, NoMemory>
+pub fn condition(scope: &BodyNames, u: &mut Unit, e: ExprId) -> Result<CExprId, NoMemory>
     requires { IsTrue (is_condition_at scope.now.nodes e) }
     ensures grows { Grows u.old u.new }
     ensures made { IfOk result (λ it. HasExpr u.new it.0 (lowered_cond scope.now.names (node_cond scope.now.nodes e))) }
@@ -63,7 +63,7 @@ fn truth(u: &mut Unit, b: bool) -> Result<CExprId, NoMemory>
 }
 
 // The truth value in a variable.
-fn held_flag(scope: &Scope, u: &mut Unit, e: ExprId, path: Path) -> Result<CExprId, NoMemory>
+fn held_flag(scope: &BodyNames, u: &mut Unit, e: ExprId, path: Path) -> Result<CExprId, NoMemory>
     requires node { IsTrue (is_condition_at scope.now.nodes e) }
     requires tree { tree_of scope.now.nodes e ≡ named (place_of_node scope.now.nodes e.0) (type_of_node scope.now.nodes e.0) (path_of path) }
     ensures grows { Grows u.old u.new }
@@ -73,7 +73,7 @@ fn held_flag(scope: &Scope, u: &mut Unit, e: ExprId, path: Path) -> Result<CExpr
 }
 
 #[cycle(conditions)]
-fn opposite(scope: &Scope, u: &mut Unit, e: ExprId, of: ExprId) -> Result<CExprId, NoMemory>
+fn opposite(scope: &BodyNames, u: &mut Unit, e: ExprId, of: ExprId) -> Result<CExprId, NoMemory>
     requires tree { node_cond scope.now.nodes e ≡ negation (place_of_node scope.now.nodes e.0) (node_cond scope.now.nodes of) }
     requires of { IsTrue (is_condition_at scope.now.nodes of) }
     requires below { of.0 < e.0 }
@@ -87,15 +87,15 @@ fn opposite(scope: &Scope, u: &mut Unit, e: ExprId, of: ExprId) -> Result<CExprI
 // A chain of conditions, or a comparison.
 #[cycle(conditions)]
 fn chain(
-    scope: &Scope,
+    scope: &BodyNames,
     u: &mut Unit,
     e: ExprId,
     op: Op,
     parts: &[ExprId],
 ) -> Result<CExprId, NoMemory>
     requires node { IsTrue (is_condition_at scope.now.nodes e) }
-    requires tree { tree_of scope.now.nodes e ≡ chain_of (place_of_node scope.now.nodes e.0) (signs_of_node scope.now.nodes e.0) (type_of_node scope.now.nodes e.0) (sort_of op) (map (tree_of scope.now.nodes) parts.now) }
-    requires fits { IsTrue (chain_fits scope.now.nodes (sort_of op) parts.now (type_of_node scope.now.nodes e.0)) }
+    requires tree { tree_of scope.now.nodes e ≡ chain_of (place_of_node scope.now.nodes e.0) (signs_of_node scope.now.nodes e.0) (type_of_node scope.now.nodes e.0) (operator_kind op) (map (tree_of scope.now.nodes) parts.now) }
+    requires fits { IsTrue (chain_fits scope.now.nodes (operator_kind op) parts.now (type_of_node scope.now.nodes e.0)) }
     requires below { IsTrue (list_all (λ p. nat_lt p.0 e.0) parts.now) }
     requires trees { IsTrue (list_all (λ p. is_tree_of (type_of_node scope.now.nodes p.0) (tree_of scope.now.nodes p)) parts.now) }
     ensures grows { Grows u.old u.new }
@@ -111,14 +111,14 @@ fn chain(
 // `and` and `or`: one operation of C.
 #[cycle(conditions)]
 fn junction(
-    scope: &Scope,
+    scope: &BodyNames,
     u: &mut Unit,
     e: ExprId,
     op: Op,
     parts: &[ExprId],
 ) -> Result<CExprId, NoMemory>
-    requires tree { tree_of scope.now.nodes e ≡ chain_of (place_of_node scope.now.nodes e.0) (signs_of_node scope.now.nodes e.0) (type_of_node scope.now.nodes e.0) (sort_of op) (map (tree_of scope.now.nodes) parts.now) }
-    requires joining { IsTrue (is_joining (sort_of op)) }
+    requires tree { tree_of scope.now.nodes e ≡ chain_of (place_of_node scope.now.nodes e.0) (signs_of_node scope.now.nodes e.0) (type_of_node scope.now.nodes e.0) (operator_kind op) (map (tree_of scope.now.nodes) parts.now) }
+    requires joining { IsTrue (is_joining (operator_kind op)) }
     requires below { IsTrue (list_all (λ p. nat_lt p.0 e.0) parts.now) }
     requires conditions { IsTrue (list_all (is_condition_at scope.now.nodes) parts.now) }
     requires some { 1 < length parts.now }
@@ -137,15 +137,15 @@ fn junction(
 
 // A comparison of two numbers, or of two statuses.
 fn comparison(
-    scope: &Scope,
+    scope: &BodyNames,
     u: &mut Unit,
     e: ExprId,
     op: Op,
     parts: &[ExprId],
 ) -> Result<CExprId, NoMemory>
-    requires tree { tree_of scope.now.nodes e ≡ chain_of (place_of_node scope.now.nodes e.0) (signs_of_node scope.now.nodes e.0) (type_of_node scope.now.nodes e.0) (sort_of op) (map (tree_of scope.now.nodes) parts.now) }
-    requires ordering { IsTrue (is_ordering (sort_of op)) }
-    requires fits { IsTrue (chain_fits scope.now.nodes (sort_of op) parts.now (type_of_node scope.now.nodes e.0)) }
+    requires tree { tree_of scope.now.nodes e ≡ chain_of (place_of_node scope.now.nodes e.0) (signs_of_node scope.now.nodes e.0) (type_of_node scope.now.nodes e.0) (operator_kind op) (map (tree_of scope.now.nodes) parts.now) }
+    requires ordering { IsTrue (is_ordering (operator_kind op)) }
+    requires fits { IsTrue (chain_fits scope.now.nodes (operator_kind op) parts.now (type_of_node scope.now.nodes e.0)) }
     requires there { IsTrue (list_all (is_expr scope.now.nodes) parts.now) }
     requires trees { IsTrue (list_all (λ p. is_tree_of (type_of_node scope.now.nodes p.0) (tree_of scope.now.nodes p)) parts.now) }
     ensures grows { Grows u.old u.new }
@@ -158,16 +158,16 @@ fn comparison(
 }
 
 fn comparison_of(
-    scope: &Scope,
+    scope: &BodyNames,
     u: &mut Unit,
     e: ExprId,
     op: Op,
     a: ExprId,
     b: ExprId,
 ) -> Result<CExprId, NoMemory>
-    requires tree { tree_of scope.now.nodes e ≡ chain_of (place_of_node scope.now.nodes e.0) (signs_of_node scope.now.nodes e.0) (type_of_node scope.now.nodes e.0) (sort_of op) (tree_of scope.now.nodes a ∷ tree_of scope.now.nodes b ∷ []) }
-    requires ordering { IsTrue (is_ordering (sort_of op)) }
-    requires kinds { IsTrue (compares_kinds (sort_of op) (type_of_node scope.now.nodes a.0) (type_of_node scope.now.nodes b.0)) }
+    requires tree { tree_of scope.now.nodes e ≡ chain_of (place_of_node scope.now.nodes e.0) (signs_of_node scope.now.nodes e.0) (type_of_node scope.now.nodes e.0) (operator_kind op) (tree_of scope.now.nodes a ∷ tree_of scope.now.nodes b ∷ []) }
+    requires ordering { IsTrue (is_ordering (operator_kind op)) }
+    requires kinds { IsTrue (compares_kinds (operator_kind op) (type_of_node scope.now.nodes a.0) (type_of_node scope.now.nodes b.0)) }
     requires left { IsTrue (is_expr scope.now.nodes a) }
     requires right { IsTrue (is_expr scope.now.nodes b) }
     requires left_tree { IsTrue (is_tree_of (type_of_node scope.now.nodes a.0) (tree_of scope.now.nodes a)) }
@@ -193,17 +193,17 @@ fn has_status(t: &Typed, a: ExprId) -> bool
 }
 
 fn numbers_compared(
-    scope: &Scope,
+    scope: &BodyNames,
     u: &mut Unit,
     op: Op,
     a: ExprId,
     b: ExprId,
 ) -> Result<CExprId, NoMemory>
-    requires ordering { IsTrue (is_ordering (sort_of op)) }
+    requires ordering { IsTrue (is_ordering (operator_kind op)) }
     requires left { IsTrue (is_number_at scope.now.nodes a) }
     requires right { IsTrue (is_number_at scope.now.nodes b) }
     ensures grows { Grows u.old u.new }
-    ensures made { IfOk result (λ it. HasExpr u.new it.0 (compared_code (order_in (sort_of op)) (lowered_expr scope.now.names (node_number scope.now.nodes a)) (lowered_expr scope.now.names (node_number scope.now.nodes b)))) }
+    ensures made { IfOk result (λ it. HasExpr u.new it.0 (compared_code (order_in (operator_kind op)) (lowered_expr scope.now.names (node_number scope.now.nodes a)) (lowered_expr scope.now.names (node_number scope.now.nodes b)))) }
 {
     let left = number(scope, u, a)?;
     let right = number(scope, u, b)?;
@@ -217,11 +217,11 @@ fn compared(
     a: CExprId,
     b: CExprId,
 ) -> Result<CExprId, NoMemory>
-    requires ordering { IsTrue (is_ordering (sort_of op)) }
+    requires ordering { IsTrue (is_ordering (operator_kind op)) }
     requires left { a.0 < length u.old.exprs }
     requires right { b.0 < length u.old.exprs }
     ensures grows { Grows u.old u.new }
-    ensures made { IfOk result (λ it. HasExpr u.new it.0 (compared_code (order_in (sort_of op)) (expr_of u.old a.0) (expr_of u.old b.0))) }
+    ensures made { IfOk result (λ it. HasExpr u.new it.0 (compared_code (order_in (operator_kind op)) (expr_of u.old a.0) (expr_of u.old b.0))) }
 {
     if asks_same(op) && !is_literal(u, a) {
         let fixed = is_literal(u, b);
@@ -232,8 +232,8 @@ fn compared(
 }
 
 fn asks_same(op: Op) -> bool
-    requires { IsTrue (is_ordering (sort_of op)) }
-    ensures { result ≡ is_equal (order_in (sort_of op)) }
+    requires { IsTrue (is_ordering (operator_kind op)) }
+    ensures { result ≡ is_equal (order_in (operator_kind op)) }
 {
     match op {
         Op::Same => true,
@@ -279,17 +279,17 @@ fn not_different(alloc: Global, u: &mut Unit, a: CExprId, b: CExprId) -> Result<
 }
 
 fn statuses_compared(
-    scope: &Scope,
+    scope: &BodyNames,
     u: &mut Unit,
     op: Op,
     a: ExprId,
     b: ExprId,
 ) -> Result<CExprId, NoMemory>
-    requires ordering { IsTrue (is_ordering (sort_of op)) }
+    requires ordering { IsTrue (is_ordering (operator_kind op)) }
     requires left { IsTrue (is_status_at scope.now.nodes a) }
     requires right { IsTrue (is_status_at scope.now.nodes b) }
     ensures grows { Grows u.old u.new }
-    ensures made { IfOk result (λ it. HasExpr u.new it.0 (statuses_compared_code (is_equal (order_in (sort_of op))) scope.now.names (node_status scope.now.nodes a) (node_status scope.now.nodes b))) }
+    ensures made { IfOk result (λ it. HasExpr u.new it.0 (statuses_compared_code (is_equal (order_in (operator_kind op))) scope.now.names (node_status scope.now.nodes a) (node_status scope.now.nodes b))) }
 {
     let left = status(scope, u, a)?;
     let right = status(scope, u, b)?;
@@ -306,7 +306,7 @@ fn statuses_compared(
 // What a base method answers.
 #[tactic(auto, unfolding(c_text::specs::CSpelling::is_reserved))]
 fn answer(
-    scope: &Scope,
+    scope: &BodyNames,
     u: &mut Unit,
     e: ExprId,
     on: ExprId,
@@ -335,7 +335,12 @@ fn answer(
     }
 }
 
-fn is_of(scope: &Scope, u: &mut Unit, on: ExprId, category: Category) -> Result<CExprId, NoMemory>
+fn is_of(
+    scope: &BodyNames,
+    u: &mut Unit,
+    on: ExprId,
+    category: Category,
+) -> Result<CExprId, NoMemory>
     requires { IsTrue (is_status_at scope.now.nodes on) }
     ensures grows { Grows u.old u.new }
     ensures made { IfOk result (λ it. HasExpr u.new it.0 (category_code category (lowered_status scope.now.names (node_status scope.now.nodes on)))) }

@@ -8,7 +8,7 @@ ghost use Rattle.c_text.specs.CTree as c;
 ghost use Rattle.c_text.specs.CTree.{finish, leave};
 ghost use Rattle.wf_exprs.specs.Grown.{Grows, HasCode, HasExpr};
 ghost use Rattle.wf_exprs.specs.Helpers.{saturating as saturating_item, saturating_value as value_of};
-ghost use Rattle.wf_exprs.specs.Words.{num, two as two_trees, uint_of as type_of_bits};
+ghost use Rattle.wf_exprs.specs.Words.{two as two_trees};
 ghost use Rattle.wf_exprs_nodes.specs.Growth.{GrowsBy, helper_item, leaves_width, parameters_of};
 
 use c_text::{CExprId, CItem, CList, CNameId, COp, CParam, CStmt, CStmtId, CType, Linkage, Unit};

@@ -4,11 +4,11 @@ ghost use Rattle.std.specs.Prelude.{◌≡◌, ◌<◌, true, false, nat_lt, len
 ghost use Rattle.std.specs.List.{list_all};
 ghost use Rattle.wf_base.specs.BaseTable.{bits_of, row_of};
 ghost use Rattle.wf_ast.specs.TypedTree.{field, cut as cut_tree, element as element_tree, convert};
-ghost use Rattle.wf_ast.specs.TypedTrees.{answer_of, chain_of, end_in, first_sign, named, num_type, place_of_node, signs_of_node, sort_of, tree_of, type_of_node};
+ghost use Rattle.wf_ast.specs.TypedTrees.{answer_of, chain_of, end_in, first_sign, named, num_type, place_of_node, signs_of_node, operator_kind, tree_of, type_of_node};
 ghost use Rattle.wf_ast.specs.TypedInvariant.{has_kind, is_expr};
 ghost use Rattle.wf_ast.specs.NodeKinds.{is_number_at, is_slice_at, end_fits, node_number, node_slice};
 ghost use Rattle.wf_ast.specs.OperatorForms.{is_arithmetic};
-ghost use Rattle.wf_exprs.specs.Exprs.{calculated as calculated_of, given as given_code, is_array, literal_type as type_of_literal, lowered, lowered_end, lowered_expr, lowered_slice, path_code, path_pair as pair_of_path, rated};
+ghost use Rattle.wf_exprs.specs.Exprs.{given as given_code, is_array, literal_type as type_of_literal, lowered, lowered_end, lowered_expr, lowered_slice, path_code, path_pair as pair_of_path, rated};
 ghost use Rattle.wf_exprs.specs.Grown.{Grows, HasExpr};
 ghost use Rattle.wf_exprs.specs.Making.{HasEnd, HasPair, HasRated};
 ghost use Rattle.wf_exprs.specs.Names.{Names};
@@ -25,13 +25,13 @@ use wf_ast::{Expr, ExprId, Op, Ty, Typed, io_arg};
 use wf_base::{BaseSig, Width};
 use wf_exprs::nodes::{element, literal, put};
 use wf_exprs::rated::{calculated, converted, literal_type};
-use wf_exprs::{Pair, Path, Rated, Scope};
+use wf_exprs::{BodyNames, Pair, Path, Rated};
 use wf_num::CTy;
 use wf_text::NoMemory;
 
 /// A number, with the type that it has in C.
 #[cycle(lowering)]
-pub fn number(scope: &Scope, u: &mut Unit, e: ExprId) -> Result<Rated, NoMemory>
+pub fn number(scope: &BodyNames, u: &mut Unit, e: ExprId) -> Result<Rated, NoMemory>
     requires { IsTrue (is_number_at scope.now.nodes e) }
     ensures grows { Grows u.old u.new }
     ensures made { IfOk result (λ a. HasRated u.new a (lowered scope.now.names (node_number scope.now.nodes e))) }
@@ -80,7 +80,7 @@ fn width_of(t: &Typed, e: ExprId) -> Width
 }
 
 // The number in a variable.
-fn held_number(scope: &Scope, u: &mut Unit, e: ExprId, path: Path) -> Result<Rated, NoMemory>
+fn held_number(scope: &BodyNames, u: &mut Unit, e: ExprId, path: Path) -> Result<Rated, NoMemory>
     requires node { IsTrue (is_number_at scope.now.nodes e) }
     requires tree { tree_of scope.now.nodes e ≡ named (place_of_node scope.now.nodes e.0) (type_of_node scope.now.nodes e.0) (path_of path) }
     ensures grows { Grows u.old u.new }
@@ -96,7 +96,7 @@ fn held_number(scope: &Scope, u: &mut Unit, e: ExprId, path: Path) -> Result<Rat
 
 #[cycle(lowering)]
 fn element_of(
-    scope: &Scope,
+    scope: &BodyNames,
     u: &mut Unit,
     e: ExprId,
     base: ExprId,
@@ -124,16 +124,16 @@ fn element_of(
 // A chain: one operation of C where its operator repeats there, else one after the other.
 #[cycle(lowering)]
 fn chain(
-    scope: &Scope,
+    scope: &BodyNames,
     u: &mut Unit,
     e: ExprId,
     op: Op,
     parts: &[ExprId],
 ) -> Result<Rated, NoMemory>
     requires node { IsTrue (is_number_at scope.now.nodes e) }
-    requires tree { tree_of scope.now.nodes e ≡ chain_of (place_of_node scope.now.nodes e.0) (signs_of_node scope.now.nodes e.0) (type_of_node scope.now.nodes e.0) (sort_of op) (map (tree_of scope.now.nodes) parts.now) }
+    requires tree { tree_of scope.now.nodes e ≡ chain_of (place_of_node scope.now.nodes e.0) (signs_of_node scope.now.nodes e.0) (type_of_node scope.now.nodes e.0) (operator_kind op) (map (tree_of scope.now.nodes) parts.now) }
     requires below { IsTrue (list_all (λ p. nat_lt p.0 e.0) parts.now) }
-    requires arithmetic { IsTrue (is_arithmetic (sort_of op)) }
+    requires arithmetic { IsTrue (is_arithmetic (operator_kind op)) }
     requires numbers { IsTrue (list_all (is_number_at scope.now.nodes) parts.now) }
     requires some { 1 < length parts.now }
     ensures grows { Grows u.old u.new }
@@ -149,18 +149,18 @@ fn chain(
 
 #[cycle(lowering)]
 fn operation_chain(
-    scope: &Scope,
+    scope: &BodyNames,
     u: &mut Unit,
     e: ExprId,
     op: Op,
     width: Width,
     parts: &[ExprId],
 ) -> Result<Rated, NoMemory>
-    requires tree { tree_of scope.now.nodes e ≡ chain_of (place_of_node scope.now.nodes e.0) (signs_of_node scope.now.nodes e.0) (type_of_node scope.now.nodes e.0) (sort_of op) (map (tree_of scope.now.nodes) parts.now) }
+    requires tree { tree_of scope.now.nodes e ≡ chain_of (place_of_node scope.now.nodes e.0) (signs_of_node scope.now.nodes e.0) (type_of_node scope.now.nodes e.0) (operator_kind op) (map (tree_of scope.now.nodes) parts.now) }
     requires width { bits_of width ≡ (num_type (type_of_node scope.now.nodes e.0)).bits }
     requires below { IsTrue (list_all (λ p. nat_lt p.0 e.0) parts.now) }
-    requires arithmetic { IsTrue (is_arithmetic (sort_of op)) }
-    requires repeats { IsTrue (repeats_sort (sort_of op)) }
+    requires arithmetic { IsTrue (is_arithmetic (operator_kind op)) }
+    requires repeats { IsTrue (repeats_sort (operator_kind op)) }
     requires numbers { IsTrue (list_all (is_number_at scope.now.nodes) parts.now) }
     requires some { 1 < length parts.now }
     ensures grows { Grows u.old u.new }
@@ -178,18 +178,18 @@ fn operation_chain(
 
 #[cycle(lowering)]
 fn linked_chain(
-    scope: &Scope,
+    scope: &BodyNames,
     u: &mut Unit,
     e: ExprId,
     op: Op,
     width: Width,
     parts: &[ExprId],
 ) -> Result<Rated, NoMemory>
-    requires tree { tree_of scope.now.nodes e ≡ chain_of (place_of_node scope.now.nodes e.0) (signs_of_node scope.now.nodes e.0) (type_of_node scope.now.nodes e.0) (sort_of op) (map (tree_of scope.now.nodes) parts.now) }
+    requires tree { tree_of scope.now.nodes e ≡ chain_of (place_of_node scope.now.nodes e.0) (signs_of_node scope.now.nodes e.0) (type_of_node scope.now.nodes e.0) (operator_kind op) (map (tree_of scope.now.nodes) parts.now) }
     requires width { bits_of width ≡ (num_type (type_of_node scope.now.nodes e.0)).bits }
     requires below { IsTrue (list_all (λ p. nat_lt p.0 e.0) parts.now) }
-    requires arithmetic { IsTrue (is_arithmetic (sort_of op)) }
-    requires apart { repeats_sort (sort_of op) ≡ false }
+    requires arithmetic { IsTrue (is_arithmetic (operator_kind op)) }
+    requires apart { repeats_sort (operator_kind op) ≡ false }
     requires numbers { IsTrue (list_all (is_number_at scope.now.nodes) parts.now) }
     requires some { 1 < length parts.now }
     ensures grows { Grows u.old u.new }
@@ -205,7 +205,7 @@ fn linked_chain(
 
 #[cycle(lowering)]
 fn conversion(
-    scope: &Scope,
+    scope: &BodyNames,
     u: &mut Unit,
     e: ExprId,
     of: ExprId,
@@ -224,7 +224,7 @@ fn conversion(
 // What a base method answers.
 #[cycle(lowering)]
 fn answer(
-    scope: &Scope,
+    scope: &BodyNames,
     u: &mut Unit,
     e: ExprId,
     on: ExprId,
@@ -254,7 +254,7 @@ fn answer(
 }
 
 #[cycle(lowering)]
-fn length_of(scope: &Scope, u: &mut Unit, e: ExprId, on: ExprId) -> Result<Rated, NoMemory>
+fn length_of(scope: &BodyNames, u: &mut Unit, e: ExprId, on: ExprId) -> Result<Rated, NoMemory>
     requires on { IsTrue (is_slice_at scope.now.nodes on) }
     requires below { on.0 < e.0 }
     ensures grows { Grows u.old u.new }
@@ -266,7 +266,7 @@ fn length_of(scope: &Scope, u: &mut Unit, e: ExprId, on: ExprId) -> Result<Rated
 
 /// A slice or a whole array, with whether its pointer is never null.
 #[cycle(lowering)]
-fn cells(scope: &Scope, u: &mut Unit, e: ExprId) -> Result<Cells, NoMemory>
+fn cells(scope: &BodyNames, u: &mut Unit, e: ExprId) -> Result<Cells, NoMemory>
     requires { IsTrue (is_slice_at scope.now.nodes e) }
     ensures grows { Grows u.old u.new }
     ensures made { IfOk result (λ it. HasPair u.new it.pair (lowered_slice scope.now.names (node_slice scope.now.nodes e))) }
@@ -291,7 +291,7 @@ fn cells(scope: &Scope, u: &mut Unit, e: ExprId) -> Result<Cells, NoMemory>
 }
 
 // The slice or the array in a variable.
-fn held_cells(scope: &Scope, u: &mut Unit, e: ExprId, path: Path) -> Result<Cells, NoMemory>
+fn held_cells(scope: &BodyNames, u: &mut Unit, e: ExprId, path: Path) -> Result<Cells, NoMemory>
     requires node { IsTrue (is_slice_at scope.now.nodes e) }
     requires tree { tree_of scope.now.nodes e ≡ named (place_of_node scope.now.nodes e.0) (type_of_node scope.now.nodes e.0) (path_of path) }
     ensures grows { Grows u.old u.new }
@@ -306,7 +306,7 @@ fn held_cells(scope: &Scope, u: &mut Unit, e: ExprId, path: Path) -> Result<Cell
     }
 }
 
-fn held_slice(scope: &Scope, u: &mut Unit, path: Path) -> Result<Cells, NoMemory>
+fn held_slice(scope: &BodyNames, u: &mut Unit, path: Path) -> Result<Cells, NoMemory>
     ensures grows { Grows u.old u.new }
     ensures made { IfOk result (λ it. HasPair u.new it.pair (pair_of_path scope.now.names (path_of path))) }
     ensures slice { IfOk result (λ it. it.never_null ≡ false) }
@@ -319,7 +319,7 @@ fn held_slice(scope: &Scope, u: &mut Unit, path: Path) -> Result<Cells, NoMemory
 }
 
 /// The slice in a variable.
-pub fn path_pair(scope: &Scope, u: &mut Unit, path: Path) -> Result<Pair, NoMemory>
+pub fn path_pair(scope: &BodyNames, u: &mut Unit, path: Path) -> Result<Pair, NoMemory>
     ensures grows { Grows u.old u.new }
     ensures made { IfOk result (λ it. HasPair u.new it (pair_of_path scope.now.names (path_of path))) }
 {
@@ -335,7 +335,7 @@ pub fn path_pair(scope: &Scope, u: &mut Unit, path: Path) -> Result<Pair, NoMemo
 }
 
 // No field is a slice: this is what the definition has for one.
-fn field_pair(scope: &Scope, u: &mut Unit, n: u32) -> Result<Pair, NoMemory>
+fn field_pair(scope: &BodyNames, u: &mut Unit, n: u32) -> Result<Pair, NoMemory>
     ensures grows { Grows u.old u.new }
     ensures made { IfOk result (λ it. HasPair u.new it (pair_of_path scope.now.names (field n))) }
 {
@@ -347,7 +347,7 @@ fn field_pair(scope: &Scope, u: &mut Unit, n: u32) -> Result<Pair, NoMemory>
     })
 }
 
-fn held_array(scope: &Scope, u: &mut Unit, path: Path, count: u32) -> Result<Cells, NoMemory>
+fn held_array(scope: &BodyNames, u: &mut Unit, path: Path, count: u32) -> Result<Cells, NoMemory>
     ensures grows { Grows u.old u.new }
     ensures made { IfOk result (λ it. HasPair u.new it.pair (record { pointer = path_code scope.now.names (path_of path); length = rated (num count) Int })) }
     ensures array { IfOk result (λ it. it.never_null ≡ true) }
@@ -363,7 +363,7 @@ fn held_array(scope: &Scope, u: &mut Unit, path: Path, count: u32) -> Result<Cel
 
 #[cycle(lowering)]
 fn cut(
-    scope: &Scope,
+    scope: &BodyNames,
     u: &mut Unit,
     e: ExprId,
     base: ExprId,
@@ -392,7 +392,7 @@ fn cut(
 // The end of a part, where it has one.
 #[cycle(lowering)]
 fn end(
-    scope: &Scope,
+    scope: &BodyNames,
     u: &mut Unit,
     e: ExprId,
     end: Option<ExprId>,
@@ -408,7 +408,7 @@ fn end(
 }
 
 /// A slice or a whole array, as its pointer and its length.
-pub fn lower_slice(scope: &Scope, u: &mut Unit, e: ExprId) -> Result<Pair, NoMemory>
+pub fn lower_slice(scope: &BodyNames, u: &mut Unit, e: ExprId) -> Result<Pair, NoMemory>
     requires { IsTrue (is_slice_at scope.now.nodes e) }
     ensures grows { Grows u.old u.new }
     ensures made { IfOk result (λ it. HasPair u.new it (lowered_slice scope.now.names (node_slice scope.now.nodes e))) }
@@ -438,7 +438,7 @@ fn unconverted(t: &Typed, e: ExprId) -> ExprId
 }
 
 /// A number that is assigned, passed or returned: what takes it converts it to its type.
-pub fn given(scope: &Scope, u: &mut Unit, e: ExprId) -> Result<CExprId, NoMemory>
+pub fn given(scope: &BodyNames, u: &mut Unit, e: ExprId) -> Result<CExprId, NoMemory>
     requires { IsTrue (is_number_at scope.now.nodes e) }
     ensures grows { Grows u.old u.new }
     ensures made { IfOk result (λ it. HasExpr u.new it.0 (given_code scope.now.names (node_number scope.now.nodes e))) }

@@ -1,6 +1,6 @@
 // A part of a slice: its pointer is moved by its first end, where it has one.
 
-ghost use Rattle.std.specs.Prelude.{◌≡◌, ◌<◌, length, IfOk, option_map};
+ghost use Rattle.std.specs.Prelude.{◌<◌, length, IfOk, option_map};
 ghost use Rattle.c_text.specs.CNodes.{expr_of};
 ghost use Rattle.wf_exprs.specs.Exprs.{from_to as from_to_rated, moved as moved_code, part_length as length_of_part, part_pair, part_pointer as pointer_of_part};
 ghost use Rattle.wf_exprs.specs.Grown.{Grows, HasExpr};

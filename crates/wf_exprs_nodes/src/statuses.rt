@@ -1,7 +1,6 @@
 // Statuses: a constant's text, or what stands in a variable.
 
 ghost use Rattle.std.specs.Prelude.{◌≡◌, ◌<◌, true, false, length, IsTrue, IfOk};
-ghost use Rattle.wf_ast.specs.TypedInvariant.{is_expr, is_state};
 ghost use Rattle.wf_ast.specs.TypedTrees.{place_of_node, type_of_node, tree_of, named};
 ghost use Rattle.wf_ast.specs.NodeKinds.{is_status_at, node_status};
 ghost use Rattle.c_text.specs.CGrammar.{is_literal as is_literal_tree};
@@ -18,7 +17,7 @@ use std::alloc::Global;
 use wf_ast::{Expr, ExprId, Typed};
 use wf_exprs::names::put_numbered;
 use wf_exprs::nodes::{element, is_literal, number, put, two};
-use wf_exprs::{Path, Scope};
+use wf_exprs::{BodyNames, Path};
 use wf_text::{Category, NoMemory};
 
 /// The status with this number: ok is null, every other one its text.
@@ -34,7 +33,7 @@ pub fn status_constant(u: &mut Unit, n: u32) -> Result<CExprId, NoMemory>
 }
 
 /// A status.
-pub fn status(scope: &Scope, u: &mut Unit, e: ExprId) -> Result<CExprId, NoMemory>
+pub fn status(scope: &BodyNames, u: &mut Unit, e: ExprId) -> Result<CExprId, NoMemory>
     requires { IsTrue (is_status_at scope.now.nodes e) }
     ensures grows { Grows u.old u.new }
     ensures made { IfOk result (λ it. HasExpr u.new it.0 (lowered_status scope.now.names (node_status scope.now.nodes e))) }
@@ -58,7 +57,7 @@ pub fn status(scope: &Scope, u: &mut Unit, e: ExprId) -> Result<CExprId, NoMemor
 }
 
 // The status in a variable.
-fn held_status(scope: &Scope, u: &mut Unit, e: ExprId, path: Path) -> Result<CExprId, NoMemory>
+fn held_status(scope: &BodyNames, u: &mut Unit, e: ExprId, path: Path) -> Result<CExprId, NoMemory>
     requires node { IsTrue (is_status_at scope.now.nodes e) }
     requires tree { tree_of scope.now.nodes e ≡ named (place_of_node scope.now.nodes e.0) (type_of_node scope.now.nodes e.0) (path_of path) }
     ensures grows { Grows u.old u.new }

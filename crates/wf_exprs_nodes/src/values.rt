@@ -11,11 +11,11 @@ use crate::numbers::given;
 use crate::statuses::status;
 use c_text::{CExprId, Unit};
 use wf_ast::{ExprId, Ty};
-use wf_exprs::Scope;
+use wf_exprs::BodyNames;
 use wf_text::NoMemory;
 
 /// An expression that is a single value, as it is assigned, passed or returned: a number, a truth value or a status.
-pub fn lower_expr(scope: &Scope, u: &mut Unit, e: ExprId) -> Result<CExprId, NoMemory>
+pub fn lower_expr(scope: &BodyNames, u: &mut Unit, e: ExprId) -> Result<CExprId, NoMemory>
     requires node { IsTrue (is_expr scope.now.nodes e) }
     requires single { IsTrue (is_single (type_of_node scope.now.nodes e.0)) }
     ensures grows { Grows u.old u.new }

@@ -7,7 +7,7 @@ use Rattle.wf_ast.specs.declared.types.Ty.{Ty}
 use Rattle.wf_ast.specs.declared.types.Ty.TheVariants as types
 use Rattle.wf_ast.specs.declared.typed_nodes.TypedNodes.{TypedNodes}
 use Rattle.wf_ast.specs.TypedTree.{Order, less, at_most, equal, differs, at_least, greater, CondTree, junction, ValueTree, numeric, state}
-use Rattle.wf_ast.specs.TypedTrees.{Sort, arithmetic, ordering, joining, num_in, cond_in, cond_chain, chain_of, comparison, first_sign, tree_of, type_of_node}
+use Rattle.wf_ast.specs.TypedTrees.{OperatorKind, arithmetic, ordering, joining, num_in, cond_in, cond_chain, chain_of, comparison, first_sign, tree_of, type_of_node}
 use Rattle.wf_ast.specs.TypedInvariant.{is_numeric, is_logical, is_tree_of, chain_fits, compares_kinds}
 use Rattle.wf_ast.specs.Value.{same_truth}
 use Rattle.wf_ast.specs.NodeKinds.{node_cond, node_number}
@@ -52,7 +52,7 @@ module _ (nodes : TypedNodes) (answer : Bool) where
       ap (λ all. if all then facts_of so_far answer ++ facts_of (node_cond nodes t) answer else stands (junction at both joined so_far (node_cond nodes t)) answer ∷ []) h
   whole-chain at both joined so_far t (u ∷ us) h = whole-chain at both true (junction at both joined so_far (node_cond nodes t)) u us h
 
-  pub chain-all : (at : Place) (signs : List Place) (ty : Ty) (sort : Sort) (es : List ExprId) → chain_fits nodes sort es ty ≡ true → joins_all sort answer ≡ true
+  pub chain-all : (at : Place) (signs : List Place) (ty : Ty) (sort : OperatorKind) (es : List ExprId) → chain_fits nodes sort es ty ≡ true → joins_all sort answer ≡ true
       → facts_of (cond_in (chain_of at signs ty sort (map (tree_of nodes) es))) answer ≡ facts_of_all nodes answer es
   chain-all at signs ty (joining both) (e ∷ f ∷ es) h k = all-chain at both false (node_cond nodes e) f es k
   chain-all at signs ty (joining both) [] h k = absurd (cc (h))
@@ -60,7 +60,7 @@ module _ (nodes : TypedNodes) (answer : Bool) where
   chain-all at signs ty (arithmetic op) es h k = absurd (cc (k))
   chain-all at signs ty (ordering op) es h k = absurd (cc (k))
 
-  pub chain-whole : (at : Place) (signs : List Place) (ty : Ty) (sort : Sort) (es : List ExprId) → chain_fits nodes sort es ty ≡ true → is_joining sort ≡ true → joins_all sort answer ≡ false
+  pub chain-whole : (at : Place) (signs : List Place) (ty : Ty) (sort : OperatorKind) (es : List ExprId) → chain_fits nodes sort es ty ≡ true → is_joining sort ≡ true → joins_all sort answer ≡ false
       → facts_of (cond_in (chain_of at signs ty sort (map (tree_of nodes) es))) answer ≡ (stands (cond_in (chain_of at signs ty sort (map (tree_of nodes) es))) answer ∷ [])
   chain-whole at signs ty (joining both) (e ∷ f ∷ es) h j k = whole-chain at both false (node_cond nodes e) f es k
   chain-whole at signs ty (joining both) [] h j k = absurd (cc (h))
@@ -90,7 +90,7 @@ module _ (nodes : TypedNodes) (answer : Bool) where
   states-facts at sign op ty ty' t u h k l = absurd (cc (h))
 
   -- Two numbers make a fact of their own, and two statuses stand as they are.
-  pub pair-facts : (at : Place) (signs : List Place) (ty : Ty) (sort : Sort) (es : List ExprId) (d : ExprId) → chain_fits nodes sort es ty ≡ true → is_joining sort ≡ false → is_logical ty ≡ true
+  pub pair-facts : (at : Place) (signs : List Place) (ty : Ty) (sort : OperatorKind) (es : List ExprId) (d : ExprId) → chain_fits nodes sort es ty ≡ true → is_joining sort ≡ false → is_logical ty ≡ true
       → is_numeric (type_of_node nodes (slice_index_or es 0 d).0) ≡ true → is_tree_of (type_of_node nodes (slice_index_or es 0 d).0) (tree_of nodes (slice_index_or es 0 d)) ≡ true
       → facts_of (cond_in (chain_of at signs ty sort (map (tree_of nodes) es))) answer
       ≡ (turned (node_number nodes (slice_index_or es 0 d)) (with_answer answer (order_in sort)) (node_number nodes (slice_index_or es 1 d)) ∷ [])
@@ -99,7 +99,7 @@ module _ (nodes : TypedNodes) (answer : Bool) where
   pair-facts at signs ty (joining both) es d h k l m n = absurd (cc (k))
   pair-facts at signs ty sort es d h k l m n = absurd (cc (h))
 
-  pub pair-whole : (at : Place) (signs : List Place) (ty : Ty) (sort : Sort) (es : List ExprId) (d : ExprId) → chain_fits nodes sort es ty ≡ true → is_joining sort ≡ false → is_logical ty ≡ true
+  pub pair-whole : (at : Place) (signs : List Place) (ty : Ty) (sort : OperatorKind) (es : List ExprId) (d : ExprId) → chain_fits nodes sort es ty ≡ true → is_joining sort ≡ false → is_logical ty ≡ true
       → is_numeric (type_of_node nodes (slice_index_or es 0 d).0) ≡ false → is_tree_of (type_of_node nodes (slice_index_or es 0 d).0) (tree_of nodes (slice_index_or es 0 d)) ≡ true
       → facts_of (cond_in (chain_of at signs ty sort (map (tree_of nodes) es))) answer ≡ (stands (cond_in (chain_of at signs ty sort (map (tree_of nodes) es))) answer ∷ [])
   pair-whole at signs ty (ordering op) (e ∷ f ∷ []) d h k l m n = states-facts at (first_sign at signs) op (type_of_node nodes e.0) (type_of_node nodes f.0) (tree_of nodes e) (tree_of nodes f) (both_of (is_logical ty) _ h).1 m n

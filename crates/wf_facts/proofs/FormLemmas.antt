@@ -17,7 +17,7 @@ use Rattle.wf_ast.specs.declared.typed_code.Expr.TheVariants as exprs
 use Rattle.wf_ast.specs.declared.typed_nodes.TypedNodes.{TypedNodes}
 use Rattle.wf_ast.specs.Operators.{same_op}
 use Rattle.wf_ast.specs.TypedTree.{Path, local, field, arg, Arith, plus, NumTree, number, link, ValueTree, elements, io}
-use Rattle.wf_ast.specs.TypedTrees.{Sort, arithmetic, ordering, joining, sort_of, made, made_or_number, named, num_chain, chain_of, answer_of, tree_of, num_in, type_of_node, constant_of_node, place_of_node, signs_of_node}
+use Rattle.wf_ast.specs.TypedTrees.{OperatorKind, arithmetic, ordering, joining, operator_kind, made, made_or_number, named, num_chain, chain_of, answer_of, tree_of, num_in, type_of_node, constant_of_node, place_of_node, signs_of_node}
 use Rattle.wf_ast.specs.TypedInvariant.{is_expr, is_numeric, is_logical, is_state, is_list, is_io, is_tree_of, is_given, kind_fits, node_fits, chain_fits, has_kind}
 use Rattle.wf_ast.specs.WellTyped.{same_mark}
 use Rattle.wf_ast.specs.Same.{same_arith}
@@ -46,11 +46,11 @@ named_form : (at : Place) (ty : Ty) (p : Path) → is_numeric ty ≡ true → fo
 named_form at (types.Num width lo hi) p h = refl
 named_form at ty p h = absurd (cc (h))
 
-is_addition : Sort → Bool
+is_addition : OperatorKind → Bool
 is_addition (arithmetic f) = same_arith f plus
 is_addition sort = false
 
-addition_is : (op : Op) → is_addition (sort_of op) ≡ same_op op ops.Add
+addition_is : (op : Op) → is_addition (operator_kind op) ≡ same_op op ops.Add
 unfolding is_addition
 addition_is ops.Add = refl
 addition_is op = refl
@@ -80,7 +80,7 @@ not_two : (n : ℕ) → nat_eq (suc (suc (suc n))) 2 ≡ false
 not_two n = ne_eqb (suc (suc (suc n))) 2 (λ e. absurd (omega (arith, e)))
 
 module _ (nodes : TypedNodes) (look : ExprId → ValueTree) (at : Place) (signs : List Place) (ty : Ty) (num : is_numeric ty ≡ true) where
-  chain_form : (sort : Sort) (es : List ExprId) → chain_fits nodes sort es ty ≡ true
+  chain_form : (sort : OperatorKind) (es : List ExprId) → chain_fits nodes sort es ty ≡ true
       → form_of (num_in (chain_of at signs ty sort (map look es))) ≡ choice (is_addition sort && nat_eq (length es) 2)
   unfolding is_addition
   chain_form (arithmetic op) (e ∷ f ∷ []) h = short_chain at op _ (num_in (look e)) (look f) signs
@@ -116,7 +116,7 @@ module _ (nodes : TypedNodes) (look : ExprId → ValueTree) (at : Place) (signs 
   made_form (exprs.Arg n) h = named_form at ty (arg n.0) num
   made_form (exprs.Index base index) h = refl
   made_form (exprs.Cut base from to) h = absurd (list_only ty num (and_parts (is_list ty) _ h).0)
-  made_form (exprs.Chain op parts) h = chain_form (sort_of op) parts h ∙ ap (λ b. choice (b && nat_eq (length parts) 2)) (addition_is op)
+  made_form (exprs.Chain op parts) h = chain_form (operator_kind op) parts h ∙ ap (λ b. choice (b && nat_eq (length parts) 2)) (addition_is op)
   made_form (exprs.Convert of to) h = refl
   made_form (exprs.Not of) h = absurd (logical_only ty num (and_parts (is_logical ty) _ h).0)
   made_form (exprs.Base on sig) h =

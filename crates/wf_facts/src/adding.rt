@@ -1,6 +1,6 @@
 // Facts come into the list.
 
-ghost use Rattle.std.specs.Prelude.{◌≡◌, ◌≤◌, ◌<◌, not, true, false, length, map, is_some, OnOk, OnErr, IfOk, IfSome, IsTrue};
+ghost use Rattle.std.specs.Prelude.{◌≡◌, ◌≤◌, ◌<◌, not, true, length, map, is_some, OnOk, OnErr, IfOk, IfSome, IsTrue};
 ghost use Rattle.wf_facts_exprs.specs.Claims.{claim_in, claims_in, is_among, is_fact, AreFacts};
 ghost use Rattle.wf_facts.specs.FactLists.{added, common};
 ghost use Rattle.wf_facts.specs.IndexedFacts.{IsOver, IsFullFor};
@@ -29,8 +29,8 @@ impl Facts {
         stands_in(t, self.list.as_slice(), f)
     }
 
-    /// Adds a fact at the end, unless it stands already; of a fact made twice the first stays. `Full` comes exactly where
-    /// 512 others stand, and the list then stays as it was.
+    /// Adds a fact at the end, unless it stands already; of a fact made twice the first stays. `Full` exactly where 512
+    /// others are there; then nothing changes.
     pub fn push(&mut self, t: &Typed, f: Fact) -> Result<(), Full>
         requires fact { is_fact t.now f ≡ true }
         requires over { IsOver t.now self.old }

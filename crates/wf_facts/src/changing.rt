@@ -1,6 +1,6 @@
 // What is still known of a number once it has changed.
 
-ghost use Rattle.std.specs.Prelude.{◌≡◌, ℕ, ◌≤◌, ◌<◌, ◌^◌, length, true, option_map, IfSome};
+ghost use Rattle.std.specs.Prelude.{◌≡◌, ◌≤◌, ◌<◌, ◌^◌, length, true, option_map, IfSome};
 ghost use Rattle.wf_ast.specs.declared.things.Thing.{Thing};
 ghost use Rattle.wf_ast.specs.declared.things.Thing.TheVariants as things;
 ghost use Rattle.wf_facts.specs.declared.changes.Change.TheVariants as changes;

@@ -2,7 +2,7 @@
 
 ghost use Rattle.std.specs.Prelude.{◌≡◌, ◌∷◌, [], map, nat_lt, false, true, if◌then◌else◌, IsTrue, OnOk, OnErr};
 ghost use Rattle.std.specs.List.{list_all};
-ghost use Rattle.wf_ast.specs.TypedTrees.{chain_of, place_of_node, signs_of_node, sort_of, tree_of, type_of_node};
+ghost use Rattle.wf_ast.specs.TypedTrees.{chain_of, place_of_node, signs_of_node, operator_kind, tree_of, type_of_node};
 ghost use Rattle.wf_ast.specs.TypedInvariant.{chain_fits};
 ghost use Rattle.wf_ast.specs.Value.{same_truth};
 ghost use Rattle.wf_ast.specs.NodeKinds.{is_condition_at, is_number_at, node_cond, node_number};
@@ -59,8 +59,8 @@ impl Facts {
         answer: bool,
     ) -> Result<(), Full>
         requires condition { is_condition_at t.now e ≡ true }
-        requires tree { tree_of t.now e ≡ chain_of (place_of_node t.now e.0) (signs_of_node t.now e.0) (type_of_node t.now e.0) (sort_of op) (map (tree_of t.now) parts.now) }
-        requires fits { IsTrue (chain_fits t.now (sort_of op) parts.now (type_of_node t.now e.0)) }
+        requires tree { tree_of t.now e ≡ chain_of (place_of_node t.now e.0) (signs_of_node t.now e.0) (type_of_node t.now e.0) (operator_kind op) (map (tree_of t.now) parts.now) }
+        requires fits { IsTrue (chain_fits t.now (operator_kind op) parts.now (type_of_node t.now e.0)) }
         requires below { IsTrue (list_all (λ p. nat_lt p.0 e.0) parts.now) }
         requires over { IsOver t.now self.old }
         ensures over { IsOver t.now self.new }
@@ -101,10 +101,10 @@ impl Facts {
         answer: bool,
     ) -> Result<(), Full>
         requires condition { is_condition_at t.now e ≡ true }
-        requires tree { tree_of t.now e ≡ chain_of (place_of_node t.now e.0) (signs_of_node t.now e.0) (type_of_node t.now e.0) (sort_of op) (map (tree_of t.now) parts.now) }
-        requires fits { IsTrue (chain_fits t.now (sort_of op) parts.now (type_of_node t.now e.0)) }
+        requires tree { tree_of t.now e ≡ chain_of (place_of_node t.now e.0) (signs_of_node t.now e.0) (type_of_node t.now e.0) (operator_kind op) (map (tree_of t.now) parts.now) }
+        requires fits { IsTrue (chain_fits t.now (operator_kind op) parts.now (type_of_node t.now e.0)) }
         requires below { IsTrue (list_all (λ p. nat_lt p.0 e.0) parts.now) }
-        requires compares { is_joining (sort_of op) ≡ false }
+        requires compares { is_joining (operator_kind op) ≡ false }
         requires over { IsOver t.now self.old }
         ensures over { IsOver t.now self.new }
         ensures ok { OnOk result (claims_in t.now self.new.list ≡ with_condition (claims_in t.now self.old.list) (node_cond t.now e) answer) }

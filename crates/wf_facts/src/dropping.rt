@@ -14,8 +14,8 @@ use wf_ast::{Thing, Typed};
 use wf_facts_exprs::Fact;
 
 impl Facts {
-    /// Drops the facts that mention a thing, as its set tells them, and keeps the order of the others. It is handed no
-    /// tree, so it works from the sets alone; all sets move with the list.
+    /// Drops the facts that mention a thing, as its set tells them, and keeps the order of the others. It goes by the
+    /// sets and sees no tree; all sets move with the list.
     pub fn drop_indexed(&mut self, x: Thing)
         requires { thing_has_set x ≡ true }
         ensures list { self.new.list ≡ unmarked (members (set_of self.old x) (length self.old.list)) self.old.list }

@@ -15,7 +15,7 @@ pub fn facts_of_a_digit()
     ensures { with_condition (with_condition [] is_zero false) is_no_digit false ≡ digit_facts }
 {}
 
-/// All three mention `c`, so its set has the words 7, 0, 0, 0, 0, 0, 0, 0, and none of them mentions `this`.
+/// All three mention `c`, so of the eight words of its set the first is 7 and the others are 0. None of them mentions `this`.
 pub fn sets_of_a_digit()
     ensures byte { (nodes : TypedNodes) (known : FactList) → claims_in nodes known.list ≡ digit_facts → IsSetOf (7 ∷ replicate 7 0) (mentioning nodes (Local (record { 0 = 0 })) known.list) }
     ensures this { (nodes : TypedNodes) (known : FactList) → claims_in nodes known.list ≡ digit_facts → IsSetOf (replicate 8 0) (mentioning nodes This known.list) }

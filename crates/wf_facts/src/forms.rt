@@ -1,10 +1,10 @@
 // What a number is, as far as facts tell numbers apart.
 
-ghost use Rattle.std.specs.Prelude.{◌≡◌, ℕ, ◌<◌, ◌+◌, ◌^◌, true, IfSome, option_map};
+ghost use Rattle.std.specs.Prelude.{◌≡◌, ◌<◌, ◌+◌, ◌^◌, true, IfSome};
 ghost use Rattle.wf_ast.specs.TypedTrees.{tree_of, num_in, type_of_node};
 ghost use Rattle.wf_ast.specs.TypedInvariant.{is_io as type_is_io};
 ghost use Rattle.wf_ast.specs.NodeKinds.{is_number_at};
-ghost use Rattle.wf_facts_exprs.specs.Claims.{is_side, side_in, tree_of_side, sum_of, length_in};
+ghost use Rattle.wf_facts_exprs.specs.Claims.{is_side, side_in, tree_of_side, length_in};
 ghost use Rattle.wf_facts_exprs.specs.declared.facts.Side.TheVariants as sides;
 ghost use Rattle.wf_facts.specs.Forms.{form_of, form_of_node, form_of_chain, form_of_method, number_in};
 

@@ -1,8 +1,8 @@
 // The list of facts with its sets.
 
-ghost use Rattle.std.specs.Prelude.{◌≡◌, ◌≤◌, ℕ, length, slice_get, true, false, [], IfOk, IfSome, IsNone, ◌↔◌};
+ghost use Rattle.std.specs.Prelude.{◌≡◌, ◌≤◌, length, slice_get, true, false, [], IfOk, IfSome, IsNone, ◌↔◌};
 ghost use Rattle.wf_ast.specs.declared.typed_nodes.TypedNodes.{TypedNodes};
-ghost use Rattle.wf_facts.specs.IndexedFacts.{FactList, IsOver, IsNamedInSets, has_set as thing_has_set, set_number as number_of_set, mentioning, words_at};
+ghost use Rattle.wf_facts.specs.IndexedFacts.{FactList, IsOver, IsNamedInSets, has_set as thing_has_set, set_number as number_of_set, mentioning};
 ghost use Rattle.wf_facts.specs.Sets.{IsSetOf};
 
 use crate::numbered::Sets;
@@ -12,8 +12,8 @@ use wf_ast::{Thing, Typed};
 use wf_facts_exprs::Fact;
 use wf_text::NoMemory;
 
-/// At most 512 facts in order, and beside them, for each local and for `This`, `Args`, `Element` and `SliceLocals`, the
-/// set of those that mention it.
+/// At most 512 facts in order, and beside them sets: one for each local, and one each for `This`, `Args`, `Element` and
+/// `SliceLocals`, with the facts that mention it.
 #[derive(Drop)]
 pub struct Facts {
     pub(crate) list: Vec<Fact>,

@@ -1,6 +1,6 @@
 // Which facts mention a thing.
 
-ghost use Rattle.std.specs.Prelude.{◌≡◌, IsTrue, true};
+ghost use Rattle.std.specs.Prelude.{◌≡◌, true};
 ghost use Rattle.wf_ast.specs.TypedTrees.{tree_of, num_in, cond_in, type_of_node};
 ghost use Rattle.wf_ast.specs.Mentions.{num_mentions, cond_mentions};
 ghost use Rattle.wf_ast.specs.NodeKinds.{is_number_at, is_condition_at};

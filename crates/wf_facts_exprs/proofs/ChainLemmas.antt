@@ -14,7 +14,7 @@ use Rattle.wf_ast.specs.declared.numbers.ExprId.{ExprId}
 use Rattle.wf_ast.specs.declared.types.Ty.{Ty}
 use Rattle.wf_ast.specs.declared.typed_nodes.TypedNodes.{TypedNodes}
 use Rattle.wf_ast.specs.TypedTree.{Arith, minus, mod_minus, sat_minus, NumTree, link}
-use Rattle.wf_ast.specs.TypedTrees.{Sort, arithmetic, ordering, joining, num_in, num_chain, chain_of, first_sign, num_type, tree_of}
+use Rattle.wf_ast.specs.TypedTrees.{OperatorKind, arithmetic, ordering, joining, num_in, num_chain, chain_of, first_sign, num_type, tree_of}
 use Rattle.wf_ast.specs.OperatorForms.{arith_in, is_arithmetic}
 use Rattle.wf_ast.specs.NodeKinds.{node_number}
 use Rattle.wf_facts_exprs.specs.Claims.{Claim}
@@ -139,7 +139,7 @@ refused-from fs nodes at op bits joined so_far x t [] (s ∷ ss) h = rw h refl
 refused-from fs nodes at op bits joined so_far x t (u ∷ us) [] h = refused-from fs nodes at op bits true (link at at op bits joined so_far (node_number nodes t)) x u us [] (rw h refl)
 refused-from fs nodes at op bits joined so_far x t (u ∷ us) (s ∷ ss) h = refused-from fs nodes at op bits true (link at s op bits joined so_far (node_number nodes t)) x u us ss (rw h refl)
 
-pub first-refused : (fs : List Claim) (nodes : TypedNodes) (at : Place) (signs : List Place) (ty : Ty) (sort : Sort) (es : List ExprId) (x : Refusal) → is_arithmetic sort ≡ true → 2 ≤ length es
+pub first-refused : (fs : List Claim) (nodes : TypedNodes) (at : Place) (signs : List Place) (ty : Ty) (sort : OperatorKind) (es : List ExprId) (x : Refusal) → is_arithmetic sort ≡ true → 2 ≤ length es
     → Err x ≡ judged fs (part_number nodes es 0) → Err x ≡ ruled fs (num_in (chain_of at signs ty sort (map (tree_of nodes) es)))
 first-refused fs nodes at signs ty (arithmetic op) (e ∷ f ∷ es) x a some h =
     let p = answer-err (num_refusal fs false (node_number nodes e)) (range_of fs (node_number nodes e)) x h in
@@ -149,7 +149,7 @@ first-refused fs nodes at signs ty (arithmetic op) (e ∷ []) x a some h = absur
 first-refused fs nodes at signs ty (joining both) es x a some h = absurd (cc (a))
 first-refused fs nodes at signs ty (ordering op) es x a some h = absurd (cc (a))
 
-pub chain-begins : (fs : List Claim) (nodes : TypedNodes) (at : Place) (signs : List Place) (ty : Ty) (sort : Sort) (es : List ExprId) (r : Range) → is_arithmetic sort ≡ true → 2 ≤ length es
+pub chain-begins : (fs : List Claim) (nodes : TypedNodes) (at : Place) (signs : List Place) (ty : Ty) (sort : OperatorKind) (es : List ExprId) (r : Range) → is_arithmetic sort ≡ true → 2 ≤ length es
     → Ok r ≡ judged fs (part_number nodes es 0) → chain_on fs at (arith_in sort) (num_type ty).bits false (part_number nodes es 0) r (map (node_number nodes) (drop 1 es)) signs ≡ ruled fs (num_in (chain_of at signs ty sort (map (tree_of nodes) es)))
 chain-begins fs nodes at signs ty (arithmetic op) (e ∷ f ∷ es) r a some h =
     let p = answer-ok (num_refusal fs false (node_number nodes e)) (range_of fs (node_number nodes e)) r h in

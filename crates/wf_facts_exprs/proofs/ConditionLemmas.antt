@@ -10,7 +10,7 @@ use Rattle.wf_ast.specs.declared.types.Ty.{Ty}
 use Rattle.wf_ast.specs.declared.types.Ty.TheVariants as types
 use Rattle.wf_ast.specs.declared.typed_nodes.TypedNodes.{TypedNodes}
 use Rattle.wf_ast.specs.TypedTree.{CondTree, junction, ValueTree, numeric, Order, equal, differs}
-use Rattle.wf_ast.specs.TypedTrees.{Sort, arithmetic, ordering, joining, num_in, cond_in, cond_chain, chain_of, comparison, first_sign, tree_of, type_of_node}
+use Rattle.wf_ast.specs.TypedTrees.{OperatorKind, arithmetic, ordering, joining, num_in, cond_in, cond_chain, chain_of, comparison, first_sign, tree_of, type_of_node}
 use Rattle.wf_ast.specs.TypedInvariant.{is_expr, is_numeric, is_logical, is_tree_of, chain_fits, compares_kinds}
 use Rattle.wf_ast.specs.NodeKinds.{is_number_at, node_cond, node_number}
 use Rattle.wf_ast.specs.OperatorForms.{is_joining}
@@ -30,7 +30,7 @@ module _ (fs : List Claim) (nodes : TypedNodes) where
   conds-chain at both joined so_far (e ∷ es) =
       conds-chain at both true (junction at both joined so_far (node_cond nodes e)) es ∙ or-again (cond_refusal fs so_far) (cond_refusal fs (node_cond nodes e)) (conds_refusal fs nodes es)
 
-  pub joined-refusal : (at : Place) (signs : List Place) (ty : Ty) (sort : Sort) (es : List ExprId) → chain_fits nodes sort es ty ≡ true → is_joining sort ≡ true
+  pub joined-refusal : (at : Place) (signs : List Place) (ty : Ty) (sort : OperatorKind) (es : List ExprId) → chain_fits nodes sort es ty ≡ true → is_joining sort ≡ true
       → cond_refusal fs (cond_in (chain_of at signs ty sort (map (tree_of nodes) es))) ≡ conds_refusal fs nodes es
   joined-refusal at signs ty (joining both) (e ∷ es) h k = conds-chain at both false (node_cond nodes e) es
   joined-refusal at signs ty (joining both) [] h k = absurd (cc (h))
@@ -44,7 +44,7 @@ module _ (fs : List Claim) (nodes : TypedNodes) where
   numbers-refusal at sign op (types.Num width lo hi) t u h k = absurd (cc (k))
   numbers-refusal at sign op ty t u h k = absurd (cc (h))
 
-  pub pair-refusal : (at : Place) (signs : List Place) (ty : Ty) (sort : Sort) (es : List ExprId) (d : ExprId) → chain_fits nodes sort es ty ≡ true → is_joining sort ≡ false → is_logical ty ≡ true
+  pub pair-refusal : (at : Place) (signs : List Place) (ty : Ty) (sort : OperatorKind) (es : List ExprId) (d : ExprId) → chain_fits nodes sort es ty ≡ true → is_joining sort ≡ false → is_logical ty ≡ true
       → is_numeric (type_of_node nodes (slice_index_or es 0 d).0) ≡ true → is_tree_of (type_of_node nodes (slice_index_or es 0 d).0) (tree_of nodes (slice_index_or es 0 d)) ≡ true
       → cond_refusal fs (cond_in (chain_of at signs ty sort (map (tree_of nodes) es))) ≡ or_else (num_refusal fs false (node_number nodes (slice_index_or es 0 d))) (num_refusal fs false (node_number nodes (slice_index_or es 1 d)))
   pair-refusal at signs ty (ordering op) (e ∷ f ∷ []) d h k l m n = numbers-refusal at (first_sign at signs) op (type_of_node nodes e.0) (tree_of nodes e) (tree_of nodes f) m n
@@ -69,7 +69,7 @@ module _ (nodes : TypedNodes) (e : ExprId) (inside : e.0 < length nodes.exprs) w
       let j = both_of (nat_lt p.0 e.0) _ k in
       and_both _ _ (and_both _ _ j.0 (and_both _ _ (there p j.0) i.0)) (conditions es i.1 j.1)
 
-  pub joined-conditions : (ty : Ty) (sort : Sort) (es : List ExprId) → chain_fits nodes sort es ty ≡ true → is_joining sort ≡ true → list_all (λ p. nat_lt p.0 e.0) es ≡ true → list_all (is_condition_below nodes e) es ≡ true
+  pub joined-conditions : (ty : Ty) (sort : OperatorKind) (es : List ExprId) → chain_fits nodes sort es ty ≡ true → is_joining sort ≡ true → list_all (λ p. nat_lt p.0 e.0) es ≡ true → list_all (is_condition_below nodes e) es ≡ true
   joined-conditions ty (joining both) (p ∷ q ∷ es) h k below = conditions (p ∷ q ∷ es) (both_of (is_logical ty) _ h).1 below
   joined-conditions ty (joining both) [] h k below = absurd (cc (h))
   joined-conditions ty (joining both) (p ∷ []) h k below = absurd (cc (h))
@@ -96,7 +96,7 @@ module _ (nodes : TypedNodes) (e : ExprId) (inside : e.0 < length nodes.exprs) w
     pub first : is_expr nodes (slice_index_or es 0 d) ≡ true
     pub numbers : is_numeric (type_of_node nodes (slice_index_or es 0 d).0) ≡ true → is_number_at nodes (slice_index_or es 1 d) ≡ true
 
-  pub pair-parts : (ty : Ty) (sort : Sort) (es : List ExprId) (d : ExprId) → chain_fits nodes sort es ty ≡ true → is_joining sort ≡ false → is_logical ty ≡ true → list_all (λ p. nat_lt p.0 e.0) es ≡ true → Pair es d
+  pub pair-parts : (ty : Ty) (sort : OperatorKind) (es : List ExprId) (d : ExprId) → chain_fits nodes sort es ty ≡ true → is_joining sort ≡ false → is_logical ty ≡ true → list_all (λ p. nat_lt p.0 e.0) es ≡ true → Pair es d
   pair-parts ty (ordering op) (p ∷ q ∷ []) d h k l below =
       let i = both_of (nat_lt p.0 e.0) _ below in
       let j = both_of (nat_lt q.0 e.0) _ i.1 in

@@ -8,7 +8,7 @@ use Rattle.wf_ast.specs.declared.types.Ty.{Ty}
 use Rattle.wf_ast.specs.declared.types.Ty.TheVariants as types
 use Rattle.wf_ast.specs.declared.typed_nodes.TypedNodes.{TypedNodes}
 use Rattle.wf_ast.specs.TypedTree.{CondTree, junction, ValueTree, numeric, state, Order, less, at_most, equal, differs, at_least, greater}
-use Rattle.wf_ast.specs.TypedTrees.{Sort, arithmetic, ordering, joining, num_in, cond_in, cond_chain, chain_of, comparison, first_sign, tree_of, type_of_node}
+use Rattle.wf_ast.specs.TypedTrees.{OperatorKind, arithmetic, ordering, joining, num_in, cond_in, cond_chain, chain_of, comparison, first_sign, tree_of, type_of_node}
 use Rattle.wf_ast.specs.TypedInvariant.{is_numeric, is_logical, is_tree_of, chain_fits, compares_kinds}
 use Rattle.wf_ast.specs.Value.{same_truth}
 use Rattle.wf_ast.specs.NodeKinds.{node_cond, node_number}
@@ -67,7 +67,7 @@ module _ (fs : List Claim) (nodes : TypedNodes) (answer : Bool) where
       ∙ ap (λ all. ((if all then a && b else a || (b || false)) || rest) || s) h
       ∙ ap (λ b. ((a || b) || rest) || s) (or-false b) ∙ ap (λ x. x || s) (or-again a b rest)
 
-  pub chain-all : (at : Place) (signs : List Place) (ty : Ty) (sort : Sort) (es : List ExprId) → chain_fits nodes sort es ty ≡ true → joins_all sort answer ≡ true
+  pub chain-all : (at : Place) (signs : List Place) (ty : Ty) (sort : OperatorKind) (es : List ExprId) → chain_fits nodes sort es ty ≡ true → joins_all sort answer ≡ true
       → gives fs (cond_in (chain_of at signs ty sort (map (tree_of nodes) es))) answer ≡ all_given fs nodes es answer
   chain-all at signs ty (joining both) (e ∷ f ∷ es) h k = all-chain false at both false (node_cond nodes e) f es k
   chain-all at signs ty (joining both) [] h k = absurd (cc (h))
@@ -75,7 +75,7 @@ module _ (fs : List Claim) (nodes : TypedNodes) (answer : Bool) where
   chain-all at signs ty (arithmetic op) es h k = absurd (cc (k))
   chain-all at signs ty (ordering op) es h k = absurd (cc (k))
 
-  pub chain-any : (at : Place) (signs : List Place) (ty : Ty) (sort : Sort) (es : List ExprId) → chain_fits nodes sort es ty ≡ true → is_joining sort ≡ true → joins_all sort answer ≡ false
+  pub chain-any : (at : Place) (signs : List Place) (ty : Ty) (sort : OperatorKind) (es : List ExprId) → chain_fits nodes sort es ty ≡ true → is_joining sort ≡ true → joins_all sort answer ≡ false
       → gives fs (cond_in (chain_of at signs ty sort (map (tree_of nodes) es))) answer ≡ (any_given fs nodes es answer || is_standing fs (cond_in (chain_of at signs ty sort (map (tree_of nodes) es))) answer)
   chain-any at signs ty (joining both) (e ∷ f ∷ es) h j k = any-chain at both false (node_cond nodes e) f es k
   chain-any at signs ty (joining both) [] h j k = absurd (cc (h))
@@ -104,7 +104,7 @@ module _ (fs : List Claim) (nodes : TypedNodes) (answer : Bool) where
   states-given at sign differs ty ty' t u h k l = absurd (cc (h))
   states-given at sign op ty ty' t u h k l = absurd (cc (h))
 
-  pub pair-given : (at : Place) (signs : List Place) (ty : Ty) (sort : Sort) (es : List ExprId) (d : ExprId) → chain_fits nodes sort es ty ≡ true → is_joining sort ≡ false → is_logical ty ≡ true
+  pub pair-given : (at : Place) (signs : List Place) (ty : Ty) (sort : OperatorKind) (es : List ExprId) (d : ExprId) → chain_fits nodes sort es ty ≡ true → is_joining sort ≡ false → is_logical ty ≡ true
       → is_numeric (type_of_node nodes (slice_index_or es 0 d).0) ≡ true → is_tree_of (type_of_node nodes (slice_index_or es 0 d).0) (tree_of nodes (slice_index_or es 0 d)) ≡ true
       → gives fs (cond_in (chain_of at signs ty sort (map (tree_of nodes) es))) answer ≡ gives_sides fs (single (node_number nodes (slice_index_or es 0 d))) (with_answer answer (order_in sort)) (single (node_number nodes (slice_index_or es 1 d)))
   pair-given at signs ty (ordering op) (e ∷ f ∷ []) d h k l m n = numbers-given at (first_sign at signs) op (type_of_node nodes e.0) (tree_of nodes e) (tree_of nodes f) m n
@@ -112,7 +112,7 @@ module _ (fs : List Claim) (nodes : TypedNodes) (answer : Bool) where
   pair-given at signs ty (joining both) es d h k l m n = absurd (cc (k))
   pair-given at signs ty sort es d h k l m n = absurd (cc (h))
 
-  pub pair-stands : (at : Place) (signs : List Place) (ty : Ty) (sort : Sort) (es : List ExprId) (d : ExprId) → chain_fits nodes sort es ty ≡ true → is_joining sort ≡ false → is_logical ty ≡ true
+  pub pair-stands : (at : Place) (signs : List Place) (ty : Ty) (sort : OperatorKind) (es : List ExprId) (d : ExprId) → chain_fits nodes sort es ty ≡ true → is_joining sort ≡ false → is_logical ty ≡ true
       → is_numeric (type_of_node nodes (slice_index_or es 0 d).0) ≡ false → is_tree_of (type_of_node nodes (slice_index_or es 0 d).0) (tree_of nodes (slice_index_or es 0 d)) ≡ true
       → gives fs (cond_in (chain_of at signs ty sort (map (tree_of nodes) es))) answer ≡ is_standing fs (cond_in (chain_of at signs ty sort (map (tree_of nodes) es))) answer
   pair-stands at signs ty (ordering op) (e ∷ f ∷ []) d h k l m n = states-given at (first_sign at signs) op (type_of_node nodes e.0) (type_of_node nodes f.0) (tree_of nodes e) (tree_of nodes f) (both_of (is_logical ty) _ h).1 m n

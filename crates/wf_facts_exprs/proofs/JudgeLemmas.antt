@@ -16,7 +16,7 @@ use Rattle.wf_ast.specs.declared.types.Ty.{Ty}
 use Rattle.wf_ast.specs.declared.types.Ty.TheVariants as types
 use Rattle.wf_ast.specs.declared.typed_nodes.TypedNodes.{TypedNodes}
 use Rattle.wf_ast.specs.TypedTree.{Arith, Order, less, at_most, at_least, NumType, NumTree, number, read, element, link, convert, length_of, asked, reader_length, peek, SliceTree, absent, present, ValueTree, elements, io}
-use Rattle.wf_ast.specs.TypedTrees.{Sort, arithmetic, ordering, joining, no_place, num_in, slice_in, io_in, num_chain, chain_of, first_sign, num_type, tree_of, type_of_node, place_of_node}
+use Rattle.wf_ast.specs.TypedTrees.{OperatorKind, arithmetic, ordering, joining, no_place, num_in, slice_in, io_in, num_chain, chain_of, first_sign, num_type, tree_of, type_of_node, place_of_node}
 use Rattle.wf_ast.specs.TypedInvariant.{is_expr, is_numeric, is_logical, is_list, is_io, is_tree_of, chain_fits}
 use Rattle.wf_ast.specs.Same.{same_num}
 use Rattle.wf_ast.specs.NodeKinds.{is_number_at, node_slice}
@@ -97,7 +97,7 @@ numeric-not-logical (types.Num width lo hi) h k = absurd (cc (k))
 numeric-not-logical ty h k = absurd (cc (h))
 
 -- The width of a chain is asked for at its last sign.
-pub chain-closes : (nodes : TypedNodes) (look : ExprId → ValueTree) (at : Place) (signs : List Place) (ty : Ty) (sort : Sort) (es : List ExprId) (r : Range) → is_numeric ty ≡ true → chain_fits nodes sort es ty ≡ true
+pub chain-closes : (nodes : TypedNodes) (look : ExprId → ValueTree) (at : Place) (signs : List Place) (ty : Ty) (sort : OperatorKind) (es : List ExprId) (r : Range) → is_numeric ty ≡ true → chain_fits nodes sort es ty ≡ true
     → width_demand (num_in (chain_of at signs ty sort (map look es))) r ≡ demand (fits_width r (num_type ty).bits) B1 (first_sign at (drop (length es - 2) signs))
 chain-closes nodes look at signs ty (arithmetic op) (e ∷ f ∷ es) r h k =
     let n : length es ≡ suc (suc (length es)) - 2 = omega arith in
@@ -114,7 +114,7 @@ pub closed-err : (p : Option Refusal) (b : Bool) (sign at : Place) (r : Range) �
 closed-err p b sign at r h e same = rw (h, e, same) refl
 
 -- An arithmetic chain.
-pub record IsArith (nodes : TypedNodes) (sort : Sort) (es : List ExprId) : Type 0 where
+pub record IsArith (nodes : TypedNodes) (sort : OperatorKind) (es : List ExprId) : Type 0 where
   pub arithmetic_sort : is_arithmetic sort ≡ true
   pub numbers : list_all (is_number_at nodes) es ≡ true
   pub some : 2 ≤ length es
@@ -125,7 +125,7 @@ chain-operator at op bits joined so_far t [] (s ∷ ss) = refl
 chain-operator at op bits joined so_far t (u ∷ us) [] = chain-operator at op bits true (link at at op bits joined so_far (num_in t)) u us []
 chain-operator at op bits joined so_far t (u ∷ us) (s ∷ ss) = chain-operator at op bits true (link at s op bits joined so_far (num_in t)) u us ss
 
-pub is-operator : (nodes : TypedNodes) (look : ExprId → ValueTree) (at : Place) (signs : List Place) (ty : Ty) (sort : Sort) (es : List ExprId) → is_numeric ty ≡ true → chain_fits nodes sort es ty ≡ true → is_operator (num_in (chain_of at signs ty sort (map look es))) ≡ true
+pub is-operator : (nodes : TypedNodes) (look : ExprId → ValueTree) (at : Place) (signs : List Place) (ty : Ty) (sort : OperatorKind) (es : List ExprId) → is_numeric ty ≡ true → chain_fits nodes sort es ty ≡ true → is_operator (num_in (chain_of at signs ty sort (map look es))) ≡ true
 is-operator nodes look at signs ty (arithmetic op) (e ∷ f ∷ es) h k = chain-operator at op (num_type ty).bits false (num_in (look e)) (look f) (map look es) signs
 is-operator nodes look at signs ty (joining both) (e ∷ f ∷ es) h k = absurd (numeric-not-logical ty h (both_of (is_logical ty) _ k).0)
 is-operator nodes look at signs ty (ordering op) (e ∷ f ∷ []) h k = absurd (numeric-not-logical ty h (both_of (is_logical ty) _ k).0)
@@ -143,7 +143,7 @@ all-numbers nodes n (e ∷ es) h k l =
     let i : is_expr nodes e ≡ true = grind (arith, nat_tests, h, q.0) in
     and_both _ _ (and_both _ _ i p.0) (all-numbers nodes n es h p.1 q.1)
 
-pub is-arith : (nodes : TypedNodes) (n : ℕ) (ty : Ty) (sort : Sort) (es : List ExprId) → n < length nodes.exprs → is_numeric ty ≡ true → chain_fits nodes sort es ty ≡ true → list_all (λ p. nat_lt p.0 n) es ≡ true → IsArith nodes sort es
+pub is-arith : (nodes : TypedNodes) (n : ℕ) (ty : Ty) (sort : OperatorKind) (es : List ExprId) → n < length nodes.exprs → is_numeric ty ≡ true → chain_fits nodes sort es ty ≡ true → list_all (λ p. nat_lt p.0 n) es ≡ true → IsArith nodes sort es
 is-arith nodes n ty (arithmetic op) (e ∷ f ∷ es) h k l below = record {
   arithmetic_sort = refl;
   numbers = all-numbers nodes n (e ∷ f ∷ es) h (both_of (is_numeric ty) _ l).1 below;

@@ -15,7 +15,7 @@ use Rattle.wf_ast.specs.declared.typed_code.Expr.{Expr}
 use Rattle.wf_ast.specs.declared.typed_code.Expr.TheVariants as exprs
 use Rattle.wf_ast.specs.declared.typed_nodes.TypedNodes.{TypedNodes}
 use Rattle.wf_ast.specs.TypedTree.{Arith, plus, NumTree, number, link, length_of, asked, reader_length, writer_length, SliceTree, ValueTree, state, elements, io, local, field, arg, equal, differs, Order}
-use Rattle.wf_ast.specs.TypedTrees.{Sort, arithmetic, ordering, joining, sort_of, no_place, num_in, slice_in, io_in, named, num_chain, chain_of, comparison, answer_of, made, tree_of, type_of_node, constant_of_node, place_of_node, signs_of_node, num_type}
+use Rattle.wf_ast.specs.TypedTrees.{OperatorKind, arithmetic, ordering, joining, operator_kind, no_place, num_in, slice_in, io_in, named, num_chain, chain_of, comparison, answer_of, made, tree_of, type_of_node, constant_of_node, place_of_node, signs_of_node, num_type}
 use Rattle.wf_ast.specs.TypedInvariant.{is_expr, is_numeric, is_list, is_tree_of, chain_fits, kind_fits}
 use Rattle.wf_ast.specs.Same.{same_num}
 use Rattle.wf_ast.specs.WellTyped.{is_constant}
@@ -95,7 +95,7 @@ answer-varies : (at : Place) (sig : BaseSig) (t : ValueTree) → is_constant (nu
 answer-varies at sigs.ReaderLength t = refl
 answer-varies at sig t = refl
 
-sorted-varies : (nodes : TypedNodes) (look : ExprId → ValueTree) (at : Place) (signs : List Place) (ty : Ty) (sort : Sort) (es : List ExprId) → chain_fits nodes sort es ty ≡ true → is_constant (num_in (chain_of at signs ty sort (map look es))) ≡ false
+sorted-varies : (nodes : TypedNodes) (look : ExprId → ValueTree) (at : Place) (signs : List Place) (ty : Ty) (sort : OperatorKind) (es : List ExprId) → chain_fits nodes sort es ty ≡ true → is_constant (num_in (chain_of at signs ty sort (map look es))) ≡ false
 sorted-varies nodes look at signs ty (arithmetic op) (e ∷ f ∷ es) h = chain-varies at op (num_type ty).bits false (num_in (look e)) (look f) (map look es) signs
 sorted-varies nodes look at signs ty (joining both) (e ∷ f ∷ es) h = refl
 sorted-varies nodes look at signs ty (ordering op) (e ∷ f ∷ []) h = comparison-varies at _ op (look e) (look f)
@@ -111,7 +111,7 @@ made-varies nodes look at signs ty (exprs.Field n) h = named-varies at ty (field
 made-varies nodes look at signs ty (exprs.Arg n) h = named-varies at ty (arg n.0)
 made-varies nodes look at signs ty (exprs.Index base index) h = refl
 made-varies nodes look at signs ty (exprs.Cut base from to) h = refl
-made-varies nodes look at signs ty (exprs.Chain op parts) h = sorted-varies nodes look at signs ty (sort_of op) parts h
+made-varies nodes look at signs ty (exprs.Chain op parts) h = sorted-varies nodes look at signs ty (operator_kind op) parts h
 made-varies nodes look at signs ty (exprs.Convert of to) h = refl
 made-varies nodes look at signs ty (exprs.Not of) h = refl
 made-varies nodes look at signs ty (exprs.Base on sig) h = answer-varies at sig (look on)
@@ -181,7 +181,7 @@ module _ (nodes : TypedNodes) (e : ExprId) (x : Expr) (it : Lent nodes e x) wher
 -- ---- chains
 
 pub sum-chain-alike : (look : ExprId → ValueTree) (at : Place) (signs : List Place) (ty : Ty) (op : Op) (es : List ExprId) (d d' : ExprId) → is_sum_of_two op es ≡ true
-    → Alike (link no_place no_place plus 0 false (num_in (look (slice_index_or es 0 d))) (num_in (look (slice_index_or es 1 d')))) (num_in (chain_of at signs ty (sort_of op) (map look es)))
+    → Alike (link no_place no_place plus 0 false (num_in (look (slice_index_or es 0 d))) (num_in (look (slice_index_or es 1 d')))) (num_in (chain_of at signs ty (operator_kind op) (map look es)))
 sum-chain-alike look at [] ty ops.Add (a ∷ b ∷ []) d d' h = plus_alike no_place no_place at at 0 (num_type ty).bits (num_in (look a)) (num_in (look b))
 sum-chain-alike look at (s ∷ ss) ty ops.Add (a ∷ b ∷ []) d d' h = plus_alike no_place no_place at s 0 (num_type ty).bits (num_in (look a)) (num_in (look b))
 sum-chain-alike look at signs ty ops.Add [] d d' h = absurd (cc (h))
@@ -196,7 +196,7 @@ pub and_true : (a b : Bool) → a ≡ true → b ≡ true → (a && b) ≡ true
 and_true true b h k = k
 and_true false b h k = absurd (cc (h))
 
-pub sum-chain-fits : (nodes : TypedNodes) (e : ExprId) (ty : Ty) (op : Op) (es : List ExprId) (d d' : ExprId) → e.0 < length nodes.exprs → is_sum_of_two op es ≡ true → chain_fits nodes (sort_of op) es ty ≡ true
+pub sum-chain-fits : (nodes : TypedNodes) (e : ExprId) (ty : Ty) (op : Op) (es : List ExprId) (d d' : ExprId) → e.0 < length nodes.exprs → is_sum_of_two op es ≡ true → chain_fits nodes (operator_kind op) es ty ≡ true
     → list_all (λ p. nat_lt p.0 e.0) es ≡ true → (is_number_at nodes (slice_index_or es 0 d) && is_number_at nodes (slice_index_or es 1 d')) ≡ true
 sum-chain-fits nodes e ty ops.Add (a ∷ b ∷ []) d d' h k f below =
     let p = both_of (is_numeric ty) _ f in
@@ -223,7 +223,7 @@ comparison-plain at sign equal (state a) b = refl
 comparison-plain at sign differs (state a) b = refl
 comparison-plain at sign op a b = refl
 
-sort-plain : (nodes : TypedNodes) (look : ExprId → ValueTree) (at : Place) (signs : List Place) (ty : Ty) (sort : Sort) (es : List ExprId) → chain_fits nodes sort es ty ≡ true
+sort-plain : (nodes : TypedNodes) (look : ExprId → ValueTree) (at : Place) (signs : List Place) (ty : Ty) (sort : OperatorKind) (es : List ExprId) → chain_fits nodes sort es ty ≡ true
     → ((op : Arith) (a b : ExprId) → sort ≡ arithmetic op → es ≡ a ∷ b ∷ [] → op ≡ plus → ⊥) → is_plain (num_in (chain_of at signs ty sort (map look es))) ≡ true
 sort-plain nodes look at signs ty (arithmetic plus) (e ∷ f ∷ []) h other = absurd (other plus e f refl refl refl)
 sort-plain nodes look at [] ty (arithmetic op) (e ∷ f ∷ []) h other = refl
@@ -234,16 +234,16 @@ sort-plain nodes look at signs ty (joining both) (e ∷ f ∷ es) h other = refl
 sort-plain nodes look at signs ty (ordering op) (e ∷ f ∷ []) h other = comparison-plain at _ op (look e) (look f)
 sort-plain nodes look at signs ty sort es h other = absurd (cc (h))
 
-only-add : (op : Op) (es : List ExprId) → is_sum_of_two op es ≡ false → (f : Arith) (a b : ExprId) → sort_of op ≡ arithmetic f → es ≡ a ∷ b ∷ [] → f ≡ plus → ⊥
+only-add : (op : Op) (es : List ExprId) → is_sum_of_two op es ≡ false → (f : Arith) (a b : ExprId) → operator_kind op ≡ arithmetic f → es ≡ a ∷ b ∷ [] → f ≡ plus → ⊥
 only-add ops.Add (x ∷ y ∷ []) h f a b i j k = absurd (cc (h))
 only-add ops.Add [] h f a b i j k = absurd (cc (j))
 only-add ops.Add (x ∷ []) h f a b i j k = absurd (cc (j))
 only-add ops.Add (x ∷ y ∷ z ∷ es) h f a b i j k = absurd (cc (j))
 only-add op es h f a b i j k = absurd (cc (i))
 
-pub chain-plain : (nodes : TypedNodes) (look : ExprId → ValueTree) (at : Place) (signs : List Place) (ty : Ty) (op : Op) (es : List ExprId) → chain_fits nodes (sort_of op) es ty ≡ true → is_sum_of_two op es ≡ false
-    → is_plain (num_in (chain_of at signs ty (sort_of op) (map look es))) ≡ true
-chain-plain nodes look at signs ty op es h k = sort-plain nodes look at signs ty (sort_of op) es h (only-add op es k)
+pub chain-plain : (nodes : TypedNodes) (look : ExprId → ValueTree) (at : Place) (signs : List Place) (ty : Ty) (op : Op) (es : List ExprId) → chain_fits nodes (operator_kind op) es ty ≡ true → is_sum_of_two op es ≡ false
+    → is_plain (num_in (chain_of at signs ty (operator_kind op) (map look es))) ≡ true
+chain-plain nodes look at signs ty op es h k = sort-plain nodes look at signs ty (operator_kind op) es h (only-add op es k)
 
 pub number-below : (nodes : TypedNodes) (e : ExprId) → is_number_at nodes e ≡ true → e.0 < length nodes.exprs
 number-below nodes e h = let p = both_of (is_expr nodes e) _ h in lt_from e.0 (length nodes.exprs) p.0

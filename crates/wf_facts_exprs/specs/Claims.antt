@@ -96,7 +96,7 @@ abbrev pub with_answer : Bool → Order → Order
 with_answer true op = op
 with_answer false op = complement op
 
--- A comparison with a constant on the left is turned round.
+-- A constant that stands on the left goes to the right, and the comparison is flipped.
 abbrev pub turned : NumTree → Order → NumTree → Claim
 turned (number at n) op b = compared (single b) (flip op) (single (number at n))
 turned a op b = compared (single a) op (single b)

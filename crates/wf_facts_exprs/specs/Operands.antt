@@ -14,7 +14,7 @@ use Rattle.wf_ast.specs.declared.numbers.ExprId.{ExprId}
 use Rattle.wf_ast.specs.declared.operators.Op.{Op}
 use Rattle.wf_ast.specs.declared.typed_nodes.TypedNodes.{TypedNodes}
 use Rattle.wf_ast.specs.TypedTree.{Arith, minus, mod_minus, sat_minus, Order, NumTree, link, SliceTree, EndTree, ValueTree}
-use Rattle.wf_ast.specs.TypedTrees.{Sort, joining, sort_of, first_sign, slice_in, tree_of, type_of_node}
+use Rattle.wf_ast.specs.TypedTrees.{OperatorKind, joining, operator_kind, first_sign, slice_in, tree_of, type_of_node}
 use Rattle.wf_ast.specs.OperatorForms.{arith_in}
 use Rattle.wf_ast.specs.NodeKinds.{node_number, node_cond, is_number_at, is_condition_at}
 use Rattle.wf_facts_exprs.specs.Claims.{Claim}
@@ -24,7 +24,7 @@ use Rattle.wf_facts_exprs.specs.declared.meeting.Pass.{Pass}
 use Rattle.wf_facts_exprs.specs.declared.meeting.Pass.TheVariants.{Narrow, Thin}
 
 abbrev pub arith_of : Op → Arith
-arith_of op = arith_in (sort_of op)
+arith_of op = arith_in (operator_kind op)
 
 -- An operator that takes its right operand from the left one, so that it counts which of them is larger.
 abbrev pub is_difference : Arith → Bool
@@ -135,7 +135,7 @@ abbrev pub is_condition_below : TypedNodes → (e part : ExprId) → Bool
 is_condition_below nodes e p = nat_lt p.0 e.0 && is_condition_at nodes p
 
 -- `and` with yes and `or` with no need all of their operands.
-abbrev pub joins_all : Sort → (answer : Bool) → Bool
+abbrev pub joins_all : OperatorKind → (answer : Bool) → Bool
 joins_all (joining both) answer = same_truth both answer
 joins_all sort answer = false
 

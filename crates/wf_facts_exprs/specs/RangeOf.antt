@@ -11,8 +11,8 @@ use Rattle.wf_ast.specs.Same.{same_num}
 use Rattle.wf_ast.specs.WellTyped.{question_width}
 use Rattle.wf_facts_exprs.specs.Claims.{SideTree, single, sum, Claim, compared, stands, tree_of_side, same_side, flip}
 
--- The first rule: a claim gives a comparison where it compares the same two sides and allows only outcomes that the
--- comparison allows, of the outcomes less, equal and greater; with its sides exchanged it counts turned round.
+-- The first rule: a claim of the same two sides gives a comparison which allows, of less, equal and greater, all that the
+-- claim does; with its sides exchanged the claim counts turned round.
 
 abbrev pub allows_less : Order → Bool
 allows_less op = compares op 0 1
@@ -101,7 +101,7 @@ abbrev pub difference : (ordered : Bool) → Range → Range → Range
 difference true a b = range (int_max (pos 0) (sub_ranges a b).lo) (sub_ranges a b).hi
 difference false a b = sub_ranges a b
 
--- The plain operator's range where it lies in the type, else all numbers of the type.
+-- The range without a wrap, if it lies in the type; otherwise all of the type's numbers.
 abbrev pub wrapped : (bits : ℕ) → Range → Range
 wrapped bits r = if fits_width r bits then r else width_range bits
 

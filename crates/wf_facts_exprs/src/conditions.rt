@@ -1,8 +1,8 @@
 // The demands of conditions and of values of every kind, and which conditions a list of facts gives.
 
-ghost use Rattle.std.specs.Prelude.{◌≡◌, ◌≤◌, ◌<◌, length, map, false, true, nat_lt, IsTrue, None};
+ghost use Rattle.std.specs.Prelude.{◌≡◌, ◌<◌, map, false, nat_lt, IsTrue, None};
 ghost use Rattle.std.specs.List.{list_all};
-ghost use Rattle.wf_ast.specs.TypedTrees.{chain_of, cond_in, place_of_node, signs_of_node, sort_of, tree_of, type_of_node};
+ghost use Rattle.wf_ast.specs.TypedTrees.{chain_of, place_of_node, signs_of_node, operator_kind, tree_of, type_of_node};
 ghost use Rattle.wf_ast.specs.TypedInvariant.{chain_fits, is_expr};
 ghost use Rattle.wf_ast.specs.NodeKinds.{is_condition_at, is_number_at, node_cond, node_number};
 ghost use Rattle.wf_ast.specs.OperatorForms.{is_joining};
@@ -99,8 +99,8 @@ fn check_chain(
 ) -> Result<(), Refusal>
     requires known { AreFacts t.now facts.now }
     requires node { IsTrue (is_condition_at t.now e) }
-    requires tree { tree_of t.now e ≡ chain_of (place_of_node t.now e.0) (signs_of_node t.now e.0) (type_of_node t.now e.0) (sort_of op) (map (tree_of t.now) parts.now) }
-    requires fits { IsTrue (chain_fits t.now (sort_of op) parts.now (type_of_node t.now e.0)) }
+    requires tree { tree_of t.now e ≡ chain_of (place_of_node t.now e.0) (signs_of_node t.now e.0) (type_of_node t.now e.0) (operator_kind op) (map (tree_of t.now) parts.now) }
+    requires fits { IsTrue (chain_fits t.now (operator_kind op) parts.now (type_of_node t.now e.0)) }
     requires below { IsTrue (list_all (λ p. nat_lt p.0 e.0) parts.now) }
     ensures { result ≡ unless_refused (cond_refusal (claims_in t.now facts.now) (node_cond t.now e)) tt }
 {
@@ -121,10 +121,10 @@ fn check_operands(
 ) -> Result<(), Refusal>
     requires known { AreFacts t.now facts.now }
     requires node { IsTrue (is_condition_at t.now e) }
-    requires tree { tree_of t.now e ≡ chain_of (place_of_node t.now e.0) (signs_of_node t.now e.0) (type_of_node t.now e.0) (sort_of op) (map (tree_of t.now) parts.now) }
-    requires fits { IsTrue (chain_fits t.now (sort_of op) parts.now (type_of_node t.now e.0)) }
+    requires tree { tree_of t.now e ≡ chain_of (place_of_node t.now e.0) (signs_of_node t.now e.0) (type_of_node t.now e.0) (operator_kind op) (map (tree_of t.now) parts.now) }
+    requires fits { IsTrue (chain_fits t.now (operator_kind op) parts.now (type_of_node t.now e.0)) }
     requires below { IsTrue (list_all (λ p. nat_lt p.0 e.0) parts.now) }
-    requires compares { is_joining (sort_of op) ≡ false }
+    requires compares { is_joining (operator_kind op) ≡ false }
     ensures { result ≡ unless_refused (cond_refusal (claims_in t.now facts.now) (node_cond t.now e)) tt }
 {
     look_at(t, parts[0]);

@@ -19,7 +19,7 @@ pub(crate) struct Ranged {
     pub range: Range,
 }
 
-/// Whether a comparison is given where the ranges of its sides are known.
+/// Whether a comparison of two sides with known ranges is given.
 pub(crate) fn gives_ranged(t: &Typed, facts: &[Fact], left: Ranged, op: Cmp, right: Ranged) -> bool
     requires known { AreFacts t.now facts.now }
     requires left { IsTrue (is_side t.now left.side) }
@@ -30,7 +30,7 @@ pub(crate) fn gives_ranged(t: &Typed, facts: &[Fact], left: Ranged, op: Cmp, rig
     second_rule(op, left.range, right.range) || first_rule(t, facts, left.side, op, right.side)
 }
 
-/// Whether a fact compares the same two sides and allows only what the comparison allows.
+/// Whether there is a fact of the same two sides that allows nothing but what the comparison does.
 pub(crate) fn first_rule(t: &Typed, facts: &[Fact], left: Side, op: Cmp, right: Side) -> bool
     requires known { AreFacts t.now facts.now }
     requires left { IsTrue (is_side t.now left) }

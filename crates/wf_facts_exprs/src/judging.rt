@@ -1,11 +1,11 @@
 // The demands and the range of an expression, found together: each node is looked at once, and each fact at each node.
 // The recursion goes as deep as brackets nest; the operands of a chain stand side by side.
 
-ghost use Rattle.std.specs.Prelude.{◌≡◌, ◌≤◌, ◌<◌, ◌||◌, ◌&&◌, length, map, true, false, nat_eq, nat_lt, ◌+◌, ◌-◌, IsTrue, IfOk, None, Some, drop};
+ghost use Rattle.std.specs.Prelude.{◌≡◌, ◌≤◌, ◌<◌, ◌||◌, ◌&&◌, length, map, false, nat_eq, nat_lt, ◌+◌, ◌-◌, IsTrue, IfOk, None, Some, drop};
 ghost use Rattle.std.specs.List.{list_all};
 ghost use Rattle.wf_num.specs.Ranges.{IsSmall, fits_width};
-ghost use Rattle.wf_ast.specs.TypedTree.{absent, asked, at_most, convert, cut, element, elements, length_of, numeric, peek, present};
-ghost use Rattle.wf_ast.specs.TypedTrees.{answer_of, chain_of, end_in, first_sign, io_in, num_type, place_of_node, signs_of_node, sort_of, tree_of, type_of_node};
+ghost use Rattle.wf_ast.specs.TypedTree.{absent, asked, at_most, convert, cut, element, length_of, numeric, peek, present};
+ghost use Rattle.wf_ast.specs.TypedTrees.{answer_of, chain_of, end_in, first_sign, io_in, num_type, place_of_node, signs_of_node, operator_kind, tree_of, type_of_node};
 ghost use Rattle.wf_ast.specs.TypedInvariant.{chain_fits, has_kind, is_expr, is_tree_of};
 ghost use Rattle.wf_ast.specs.NodeKinds.{is_number_at, gives_number, node_number, node_slice};
 ghost use Rattle.wf_ast.specs.OperatorForms.{is_arithmetic};
@@ -66,8 +66,8 @@ fn close(t: &Typed, e: ExprId, r: Range) -> Result<Range, Refusal>
 
 fn close_chain(t: &Typed, e: ExprId, op: Op, parts: &[ExprId], r: Range) -> Result<Range, Refusal>
     requires node { IsTrue (is_number_at t.now e) }
-    requires tree { tree_of t.now e ≡ chain_of (place_of_node t.now e.0) (signs_of_node t.now e.0) (type_of_node t.now e.0) (sort_of op) (map (tree_of t.now) parts.now) }
-    requires fits { IsTrue (chain_fits t.now (sort_of op) parts.now (type_of_node t.now e.0)) }
+    requires tree { tree_of t.now e ≡ chain_of (place_of_node t.now e.0) (signs_of_node t.now e.0) (type_of_node t.now e.0) (operator_kind op) (map (tree_of t.now) parts.now) }
+    requires fits { IsTrue (chain_fits t.now (operator_kind op) parts.now (type_of_node t.now e.0)) }
     ensures answer { result ≡ unless_refused (width_demand (node_number t.now e) r) r }
     ensures small { IfOk result (λ r. IsSmall r) }
 {
@@ -543,10 +543,10 @@ fn judge_chain(
 ) -> Result<Range, Refusal>
     requires known { AreFacts t.now facts.now }
     requires node { IsTrue (is_number_at t.now e) }
-    requires tree { tree_of t.now e ≡ chain_of (place_of_node t.now e.0) (signs_of_node t.now e.0) (type_of_node t.now e.0) (sort_of op) (map (tree_of t.now) parts.now) }
-    requires fits { IsTrue (chain_fits t.now (sort_of op) parts.now (type_of_node t.now e.0)) }
+    requires tree { tree_of t.now e ≡ chain_of (place_of_node t.now e.0) (signs_of_node t.now e.0) (type_of_node t.now e.0) (operator_kind op) (map (tree_of t.now) parts.now) }
+    requires fits { IsTrue (chain_fits t.now (operator_kind op) parts.now (type_of_node t.now e.0)) }
     requires below { IsTrue (list_all (λ p. nat_lt p.0 e.0) parts.now) }
-    requires arithmetic { IsTrue (is_arithmetic (sort_of op)) }
+    requires arithmetic { IsTrue (is_arithmetic (operator_kind op)) }
     requires numbers { IsTrue (list_all (is_number_at t.now) parts.now) }
     ensures answer { result ≡ ruled (claims_in t.now facts.now) (node_number t.now e) }
 {
@@ -612,7 +612,7 @@ fn judge_next(
 ) -> Result<Range, Refusal>
     requires known { AreFacts t.now facts.now }
     requires part { IsTrue (is_number_at t.now part) }
-    requires arithmetic { IsTrue (is_arithmetic (sort_of link.op)) }
+    requires arithmetic { IsTrue (is_arithmetic (operator_kind link.op)) }
     requires width { link.bits ≤ 64 }
     requires left { IsSmall r }
     ensures answer { result ≡ one_more (claims_in t.now facts.now) (arith_of link.op) link.bits link.sign link.ordered link.last r (node_number t.now part) }

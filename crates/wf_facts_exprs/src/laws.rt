@@ -22,7 +22,7 @@ pub fn a_range_holds_the_value()
     ensures { (c : Context) (s : State) (fs : List Claim) (t : NumTree) (n : ℕ) → IsLawful c s → well_claims c fs ≡ true → AllTrue s fs → well_num c t ≡ true → num_refusal fs false t ≡ None → value s t ≡ Some n → Holds (range_of fs t) n }
 {}
 
-/// Where all facts of a list are true, so is all that the list gives of conditions and comparisons whose demands are met.
+/// A list whose facts are all true gives nothing false: of conditions and of comparisons whose demands are met.
 pub fn what_is_given_is_true()
     ensures conditions { (c : Context) (s : State) (fs : List Claim) (t : CondTree) (answer : Bool) → IsLawful c s → well_claims c fs ≡ true → AllTrue s fs → well_cond c t ≡ true → cond_refusal fs t ≡ None → gives fs t answer ≡ true → truth_of s t ≡ Some answer }
     ensures sides { (c : Context) (s : State) (fs : List Claim) (a b : SideTree) (op : Order) → IsLawful c s → well_claims c fs ≡ true → AllTrue s fs → well_side c a ≡ true → well_side c b ≡ true → side_refusal fs a ≡ None → side_refusal fs b ≡ None → gives_sides fs a op b ≡ true → claim_truth s (compared a op b) ≡ Some true }

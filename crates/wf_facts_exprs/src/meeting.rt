@@ -1,9 +1,8 @@
 // What a range is met with: the facts that compare the same tree with a number.
 
-ghost use Rattle.std.specs.Prelude.{◌≡◌, ℕ, ◌<◌, ◌^◌, length, IsTrue, nat_lt, IfSome};
+ghost use Rattle.std.specs.Prelude.{◌≡◌, ℕ, ◌<◌, ◌^◌, IsTrue, IfSome};
 ghost use Rattle.wf_num.specs.Ranges.{IsSmall};
 ghost use Rattle.wf_num.specs.declared.ranges.Range.{Range};
-ghost use Rattle.wf_ast.specs.TypedTrees.{num_in, tree_of};
 ghost use Rattle.wf_ast.specs.Same.{same_num};
 ghost use Rattle.wf_ast.specs.NodeKinds.{is_number_at};
 ghost use Rattle.wf_facts_exprs.specs.Claims.{AreFacts, claim_in, claims_in, is_fact, is_side, order_of, side_in, tree_of_side};

@@ -1,7 +1,7 @@
 // What a condition asks of its operands: which of them, and how they are compared.
 
 ghost use Rattle.std.specs.Prelude.{◌≡◌, false, IsTrue};
-ghost use Rattle.wf_ast.specs.TypedTrees.{sort_of, type_of_node};
+ghost use Rattle.wf_ast.specs.TypedTrees.{operator_kind, type_of_node};
 ghost use Rattle.wf_ast.specs.TypedInvariant.{is_expr, is_numeric};
 ghost use Rattle.wf_ast.specs.OperatorForms.{is_joining, order_in};
 ghost use Rattle.wf_facts_exprs.specs.Claims.{order_of, with_answer};
@@ -12,14 +12,14 @@ use wf_ast::{ExprId, Op, Ty, Typed};
 
 /// Whether an operator joins conditions: `and` and `or`.
 pub fn joins(op: Op) -> bool
-    ensures { result ≡ is_joining (sort_of op) }
+    ensures { result ≡ is_joining (operator_kind op) }
 {
     matches!(op, Op::And | Op::Or)
 }
 
 /// Whether a condition has this answer exactly where all of its operands have it: `and` with yes and `or` with no.
 pub fn needs_all(op: Op, answer: bool) -> bool
-    ensures { result ≡ joins_all (sort_of op) answer }
+    ensures { result ≡ joins_all (operator_kind op) answer }
 {
     match op {
         Op::And => answer,
@@ -34,8 +34,8 @@ pub fn needs_all(op: Op, answer: bool) -> bool
 /// The comparison of two operands that holds where the condition has this answer: the operator's own with yes, and its
 /// complement with no.
 pub fn compared_by(op: Op, answer: bool) -> Cmp
-    requires { is_joining (sort_of op) ≡ false }
-    ensures { order_of result ≡ with_answer answer (order_in (sort_of op)) }
+    requires { is_joining (operator_kind op) ≡ false }
+    ensures { order_of result ≡ with_answer answer (order_in (operator_kind op)) }
 {
     match op {
         Op::Same => if answer { Cmp::Eq } else { Cmp::Ne },

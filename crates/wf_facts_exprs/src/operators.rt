@@ -1,8 +1,8 @@
 // The range of each operator, and what it asks of its right operand.
 
-ghost use Rattle.std.specs.Prelude.{◌≡◌, ◌≤◌, ◌<◌, ◌⊎◌, true, false, IsTrue, pos, ◌≤ℤ◌};
+ghost use Rattle.std.specs.Prelude.{◌≡◌, ◌≤◌, ◌<◌, IsTrue};
 ghost use Rattle.wf_num.specs.Ranges.{IsSmall, div_ranges, low, rem_ranges};
-ghost use Rattle.wf_ast.specs.TypedTrees.{sort_of};
+ghost use Rattle.wf_ast.specs.TypedTrees.{operator_kind};
 ghost use Rattle.wf_ast.specs.OperatorForms.{is_arithmetic};
 ghost use Rattle.wf_facts_exprs.specs.RangeOf.{cut_off as range_cut_off, difference as range_difference, operator_range as range_by_operator, wrapped as range_wrapped};
 ghost use Rattle.wf_facts_exprs.specs.Demands.{demand as wanted, is_below, is_divisor, operand_demand as wanted_of_operand, unless_refused};
@@ -23,7 +23,7 @@ pub(crate) fn demand(met: bool, rule: Rule, at: Place) -> Result<(), Refusal>
     }
 }
 
-/// What an operator asks of its right operand: a divisor isn't 0, and a shift is below the width.
+/// What an operator asks of its right operand: not 0 for a divisor, less than the width for a shift.
 pub(crate) fn operand_demand(op: Op, bits: u32, sign: Place, b: Range) -> Result<(), Refusal>
     ensures { result ≡ unless_refused (wanted_of_operand (arith_of op) bits sign b) tt }
 {
@@ -52,7 +52,7 @@ fn shifts(bits: u32, b: Range) -> bool
 /// The range of an operator for those of its operands. `ordered` tells that the right operand of `-` is given to be at
 /// most the left one.
 pub(crate) fn operator_range(op: Op, bits: u32, ordered: bool, a: Range, b: Range) -> Range
-    requires arithmetic { IsTrue (is_arithmetic (sort_of op)) }
+    requires arithmetic { IsTrue (is_arithmetic (operator_kind op)) }
     requires width { bits ≤ 64 }
     requires left { IsSmall a }
     requires right { IsSmall b }

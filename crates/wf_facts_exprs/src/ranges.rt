@@ -1,4 +1,4 @@
-// The range of an expression under a list of facts, and what the list gives of two sides.
+// Under a list of facts: in which range an expression lies, and what is given of two sides.
 
 ghost use Rattle.std.specs.Prelude.{◌≡◌, ◌<◌, ◌^◌, false, IsTrue, IfOk, None};
 ghost use Rattle.wf_num.specs.Ranges.{IsSmall, exact_range};

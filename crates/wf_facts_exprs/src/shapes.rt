@@ -1,10 +1,10 @@
 // What a side is, and whether two sides are one.
 
-ghost use Rattle.std.specs.Prelude.{◌≡◌, ◌<◌, ◌^◌, length, map, IsTrue, nat_eq, nat_lt};
+ghost use Rattle.std.specs.Prelude.{◌≡◌, ◌<◌, length, map, IsTrue, nat_eq, nat_lt};
 ghost use Rattle.std.specs.List.{list_all};
 ghost use Rattle.wf_ast.specs.TypedTree.{number};
-ghost use Rattle.wf_ast.specs.TypedTrees.{no_place, num_in, slice_in, io_in, tree_of, type_of_node, place_of_node, signs_of_node, chain_of, sort_of, answer_of};
-ghost use Rattle.wf_ast.specs.TypedInvariant.{is_tree_of, is_expr, is_list, is_io, chain_fits, has_kind};
+ghost use Rattle.wf_ast.specs.TypedTrees.{no_place, num_in, slice_in, io_in, tree_of, type_of_node, place_of_node, signs_of_node, chain_of, operator_kind, answer_of};
+ghost use Rattle.wf_ast.specs.TypedInvariant.{is_tree_of, is_expr, chain_fits, has_kind};
 ghost use Rattle.wf_ast.specs.Same.{same_num, same_slice};
 ghost use Rattle.wf_ast.specs.NodeKinds.{is_number_at};
 ghost use Rattle.wf_base.specs.BaseTable.{row_of};
@@ -103,8 +103,8 @@ pub(crate) fn expr_shape(t: &Typed, e: ExprId) -> Shape
 
 fn chain_shape(t: &Typed, e: ExprId, op: Op, parts: &[ExprId]) -> Shape
     requires node { IsTrue (is_number_at t.now e) }
-    requires tree { tree_of t.now e ≡ chain_of (place_of_node t.now e.0) (signs_of_node t.now e.0) (type_of_node t.now e.0) (sort_of op) (map (tree_of t.now) parts.now) }
-    requires fits { IsTrue (chain_fits t.now (sort_of op) parts.now (type_of_node t.now e.0)) }
+    requires tree { tree_of t.now e ≡ chain_of (place_of_node t.now e.0) (signs_of_node t.now e.0) (type_of_node t.now e.0) (operator_kind op) (map (tree_of t.now) parts.now) }
+    requires fits { IsTrue (chain_fits t.now (operator_kind op) parts.now (type_of_node t.now e.0)) }
     requires below { IsTrue (list_all (λ p. nat_lt p.0 e.0) parts.now) }
     ensures alike { Alike (shape_tree t.now result) (num_in (tree_of t.now e)) }
     ensures fits { IsTrue (shape_fits t.now result) }

@@ -1,8 +1,9 @@
 -- The promises of a loop one by one, and how its lists grow by their facts.
-use Rattle.std.proofs.Common.{◌≡◌, ℕ, zero, suc, ◌+◌, ◌<◌, ◌≤◌, Bool, true, false, List, [], ◌∷◌, ◌++◌, length, take, drop, Option, Some, None, Ok, Err, refl, sym, ap, ◌∙◌, subst, arith}
+use Rattle.std.proofs.Common.{◌≡◌, ℕ, zero, suc, ◌+◌, ◌<◌, ◌≤◌, Bool, true, false, List, [], ◌∷◌, ◌++◌, length, take, drop, Option, Some, None, Result, Ok, Err, IsErrAnd, MatchResult, OnOk, OnErr, refl, sym, ap, ◌∙◌, subst, arith}
 use Rattle.std.specs.Prelude.{if◌then◌else◌, slice_index_or, slice_get, nat_le}
 use Rattle.std.proofs.lemmas.Bool.Decides.{nat_tests}
 use Rattle.std.proofs.lemmas.List.{length-append}
+use Rattle.std.proofs.lemmas.Result.{err_from_is_err_and}
 use Rattle.wf_text.specs.declared.place.Place.{Place}
 use Rattle.wf_text.specs.declared.rules.Rule.{Rule}
 use Rattle.wf_text.specs.declared.rules.Rule.TheVariants.{L8}
@@ -16,6 +17,7 @@ use Rattle.wf_facts_exprs.specs.declared.facts.Fact.{Fact}
 use Rattle.wf_facts_exprs.specs.Claims.{Claim, claims_in, is_among, facts_of}
 use Rattle.wf_facts_exprs.specs.Given.{gives}
 use Rattle.wf_facts_exprs.specs.Demands.{demand, or_else, cond_refusal, unless_refused}
+use Rattle.wf_facts.specs.declared.adding.Full.{Full}
 use Rattle.wf_facts.specs.FactLists.{added, all_added, with_condition}
 use Rattle.wf_facts.specs.Conditions.{StopsAt}
 use Rattle.wf_loops.specs.declared.moments.Moment.{Moment}
@@ -137,6 +139,16 @@ refused_by refusal found h = ap (λ r. unless_refused r (tt {0})) (sym h)
 pub found_no_room : (at : Place) (before facts after : List Claim) → StopsAt before facts after → Err (record { rule = L8; at = at }) ≡ unless_refused (limit at (all_added before facts)) (tt {0})
 found_no_room at before facts after h =
     refused_by (limit at (all_added before facts)) (record { rule = L8; at = at }) (past_limit at (all_added before facts) (too_many facts before h.count h.next after h.is h.so_far h.many h.other))
+
+-- Where a fact finds no room, the limit's refusal is told, and nothing else.
+pub told_limit : (Q : Full → Refusal → Type 0) (at : Place) (before facts after : List Claim) (r : Result (Unit {0}) Full) (m : Result (Unit {0}) Refusal)
+    → ((e : Full) (d : Refusal) → Q e d → d ≡ record { rule = L8; at = at }) → MatchResult r (λ y. m ≡ Ok y) (λ e. IsErrAnd m (Q e))
+    → OnOk r (after ≡ all_added before facts) → length after ≤ 512 → OnErr r (StopsAt before facts after) → m ≡ unless_refused (limit at (all_added before facts)) (tt {0})
+told_limit Q at before facts after (Ok y) m tells h same few stop =
+    let e : nat_le (length (all_added before facts)) 512 ≡ true = grind (arith, nat_tests, ap length same, few) in
+    h ∙ ap (λ b. unless_refused (demand b L8 at) (tt {0})) (sym e)
+told_limit Q at before facts after (Err x) m tells h same few stop =
+    let p = err_from_is_err_and m h in p.1 ∙ ap (λ d. Err d) (tells x p.0 p.2) ∙ found_no_room at before facts after stop
 
 -- A list that is refused by the limit for one promise is so for all.
 pub asked_past : (at : Place) (moment : Moment) (asked : Bool) (t : CondTree) (rest : List (Clause × CondTree)) (fs whole : List Claim) (found : Refusal) → asked ≡ true

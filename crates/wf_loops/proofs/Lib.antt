@@ -1,4 +1,5 @@
 pub mod AskingLemmas
 pub mod LawLemmas
 pub mod LoopLemmas
+pub mod MappedErrors
 pub mod NodeLemmas

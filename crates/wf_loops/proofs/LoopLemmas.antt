@@ -19,7 +19,7 @@ use Rattle.wf_ast.specs.declared.typed_code.LoopHead.{LoopHead}
 use Rattle.wf_ast.specs.declared.typed_code.Block as typed_code
 use Rattle.wf_ast.specs.declared.typed_nodes.TypedNodes.{TypedNodes}
 use Rattle.wf_ast.specs.TypedTree.{CondTree, junction, ValueTree, logical, state, Order, equal, differs, Path, local, field, arg, Head}
-use Rattle.wf_ast.specs.TypedTrees.{no_place, Sort, arithmetic, ordering, joining, sort_of, cond_in, cond_chain, chain_of, comparison, answer_of, named, made, made_or_number, tree_of, type_of_node, constant_of_node, place_of_node, signs_of_node}
+use Rattle.wf_ast.specs.TypedTrees.{no_place, OperatorKind, arithmetic, ordering, joining, operator_kind, cond_in, cond_chain, chain_of, comparison, answer_of, named, made, made_or_number, tree_of, type_of_node, constant_of_node, place_of_node, signs_of_node}
 use Rattle.wf_ast.specs.TypedInvariant.{is_expr, is_numeric, is_logical, is_tree_of, node_fits, chain_fits, kind_fits}
 use Rattle.wf_ast.specs.WellTyped.{is_word_true}
 use Rattle.wf_ast.specs.NodeKinds.{is_condition_at, node_cond}
@@ -142,7 +142,7 @@ module _ (at : Place) where
   answer_word sig t = refl
 
   module _ (nodes : TypedNodes) (look : ExprId → ValueTree) (signs : List Place) where
-    sort_word : (ty : Ty) (sort : Sort) (es : List ExprId) → chain_fits nodes sort es ty ≡ true → is_word_true (cond_in (chain_of at signs ty sort (map look es))) ≡ false
+    sort_word : (ty : Ty) (sort : OperatorKind) (es : List ExprId) → chain_fits nodes sort es ty ≡ true → is_word_true (cond_in (chain_of at signs ty sort (map look es))) ≡ false
     sort_word ty (arithmetic op) (e ∷ es) h = refl
     sort_word ty (joining both) (e ∷ f ∷ es) h = chain_word both false (cond_in (look e)) (look f) (map look es)
     sort_word ty (ordering op) (e ∷ f ∷ es) h = comparison_word _ op (look e) (look f)
@@ -168,7 +168,7 @@ module _ (nodes : TypedNodes) (look : ExprId → ValueTree) (at : Place) (signs 
   made_word (exprs.Arg x) h = named_word at ty (arg x.0)
   made_word (exprs.Index base index) h = refl
   made_word (exprs.Cut base from to) h = refl
-  made_word (exprs.Chain op parts) h = sort_word at nodes look signs ty (sort_of op) parts h
+  made_word (exprs.Chain op parts) h = sort_word at nodes look signs ty (operator_kind op) parts h
   made_word (exprs.Convert of to) h = refl
   made_word (exprs.Not of) h = refl
   made_word (exprs.Base on sig) h = answer_word at sig (look on)

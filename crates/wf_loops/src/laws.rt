@@ -13,7 +13,7 @@ ghost use Rattle.wf_ast.specs.declared.typed_nodes.TypedNodes.{TypedNodes};
 ghost use Rattle.wf_ast.specs.TypedTree.{Head};
 ghost use Rattle.wf_ast.specs.TypedTrees.{head_made, tree_of};
 ghost use Rattle.wf_ast.specs.TypedInvariant.{IsTyped, is_expr};
-ghost use Rattle.wf_ast.specs.Value.{State, truth_of};
+ghost use Rattle.wf_ast.specs.Value.{State};
 ghost use Rattle.wf_ast.specs.WellTyped.{Context, well_cond};
 ghost use Rattle.wf_ast.specs.NodeKinds.{is_condition_at, node_cond};
 ghost use Rattle.wf_facts_exprs.specs.Claims.{Claim, AllTrue};

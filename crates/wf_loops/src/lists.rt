@@ -84,8 +84,5 @@ pub fn add(facts: &mut Facts, t: &Typed, e: ExprId, answer: bool, at: Place) -> 
     let added = facts.add_condition(t, e, answer);
     // At most 512 stand.
     let _few = facts.len();
-    match added {
-        Ok(()) => Ok(()),
-        Err(_) => Err(Refusal { rule: Rule::L8, at }),
-    }
+    added.map_err(|_| Refusal { rule: Rule::L8, at })
 }

@@ -1,5 +1,5 @@
 -- The functions of a text: those that make objects of structs ready, and those of methods.
-use Rattle.std.proofs.Common.{◌≡◌, ◌∙◌, ap, sym, subst, ℕ, suc, ◌<◌, true, false, if◌then◌else◌, Option, Some, IfSome, Result, Ok, Err, OnOk, List, [], ◌∷◌, ◌++◌, get_or, length, refl, arith, nat_lt}
+use Rattle.std.proofs.Common.{◌≡◌, ◌∙◌, ap, sym, subst, ℕ, suc, ◌<◌, Bool, true, false, if◌then◌else◌, Option, Some, IfSome, Result, Ok, Err, OnOk, List, [], ◌∷◌, ◌++◌, get_or, length, refl, arith, nat_lt}
 use Rattle.std.specs.Prelude.{slice_get}
 use Rattle.std.specs.List.{list_all}
 use Rattle.std.proofs.lemmas.Bool.Decides.{nat_tests}
@@ -23,18 +23,26 @@ use Rattle.wf_lower_stmts.specs.Forms.{Form, form_of}
 use Rattle.wf_lower.specs.Bodies.{body_function, entry_function, functions_of}
 use Rattle.wf_lower.specs.Made.{AddsFunctions, HasFunctionTrees, HasItemTree, IsReady}
 use Rattle.wf_lower.specs.Methods.{IsBodyOf}
-use Rattle.wf_lower.specs.Ordering.{are_structs}
 use Rattle.wf_lower.specs.Parts.{entry_functions}
 use Rattle.wf_lower.specs.Unit.{initialize_functions, method_functions, struct_items}
 use Rattle.wf_lower.proofs.Kept.{FitsFunctionTree, function_of, functions_as, functions_on, functions_push, no_functions}
-use Rattle.wf_lower.proofs.Known.{body_there, count_same, in_order, method_at, methods_same}
+use Rattle.wf_lower.proofs.Known.{body_there, count_same, in_order, method_at, methods_same, structs_in_order}
 use Rattle.wf_lower.proofs.PartLaws.{front_nil}
 use Rattle.wf_lower.proofs.Walks.{all_here}
 
 -- Numbers in an order are those of structs, or of methods.
-pub struct_known : (nodes : TypedNodes) (order : List ℕ) (i d : ℕ) → i < length order → are_structs (package_of nodes) order ≡ true → get_or order i d < length nodes.structs
-struct_known nodes order i d h known =
-    let test : nat_lt (get_or order i d) (length (package_of nodes).structs) ≡ true = all_here (λ s. nat_lt s (length (package_of nodes).structs)) order i d h known in
+struct_order_same : (nodes : TypedNodes) → (package_of nodes).struct_order ≡ nodes.struct_order
+unfolding package_of
+struct_order_same nodes = refl
+
+pub struct_order_is : (nodes : TypedNodes) (order : List ℕ) → order ≡ nodes.struct_order → order ≡ (package_of nodes).struct_order
+struct_order_is nodes order e = e ∙ sym (struct_order_same nodes)
+
+pub struct_known : (nodes : TypedNodes) → IsTyped nodes → (order : List ℕ) (i d : ℕ) → order ≡ nodes.struct_order → i < length order → get_or order i d < length nodes.structs
+struct_known nodes typed order i d e h =
+    let is_struct : ℕ → Bool = λ s. nat_lt s (length (package_of nodes).structs) in
+    let known : list_all is_struct order ≡ true = ap (list_all is_struct) (struct_order_is nodes order e) ∙ structs_in_order (package_of nodes) typed.rules in
+    let test : nat_lt (get_or order i d) (length (package_of nodes).structs) ≡ true = all_here is_struct order i d h known in
     let below : get_or order i d < length (package_of nodes).structs = grind (arith, nat_tests, test) in
     let same = count_same nodes in
     omega (arith, below, same)

@@ -175,19 +175,6 @@ module _ (old new : Nodes) (g : Keeps old new) where
   pub args_kept : {xs : List CArg} {t : Args} → HasArgTrees old xs t → HasArgTrees new xs t
   args_kept {xs} h = record { there = args_there xs h.there; are = args_same xs h.there ∙ h.are }
 
-  -- With their trees.
-  pub param_kept : {p : CParam} {t : ParamTree} → HasParamTree old p t → HasParamTree new p t
-  param_kept {p} h = record { there = param_there p h.there; is = param_same p h.there ∙ h.is }
-
-  pub local_kept : {l : CLocal} {t : LocalTree} → HasLocalTree old l t → HasLocalTree new l t
-  local_kept {l} h = record { there = local_there l h.there; is = local_same l h.there ∙ h.is }
-
-  pub field_kept : {f : CField} {t : FieldTree} → HasFieldTree old f t → HasFieldTree new f t
-  field_kept {f} h = record { there = field_there f h.there; is = field_same f h.there ∙ h.is }
-
-  pub function_kept : {x : CItem} {t : ItemTree} → HasFunctionTree old x t → HasFunctionTree new x t
-  function_kept {x} h = record { there = function_there x h.there; is = function_same x h.there ∙ h.is }
-
   pub params_kept : {ps : List CParam} {ts : List ParamTree} → HasParamTrees old ps ts → HasParamTrees new ps ts
   params_kept {ps} h = record { there = params_there ps h.there; are = params_same ps h.there ∙ h.are }
 
@@ -340,15 +327,6 @@ module _ {a b : Nodes} where
   pub functions_push : (ps qs : List CItem) (p : CItem) (t : ItemTree) (r : Result (Unit {0}) NoMemory) → Grows a b → HasFunctionTree b p t → OnOk r (qs ≡ ps ++ p ∷ []) → OnOk r (AddsFunctions a b ps qs (t ∷ []))
   functions_push ps qs p t (Ok u) g k e = one_function ps qs p t e g k
   functions_push ps qs p t (Err refused) g k e = e
-
-module _ (a b c : Nodes) where
-  pub functions_after : (ps qs : List CItem) (ts us : List ItemTree) (r : Result (Unit {0}) NoMemory) → Grows a b → ts ≡ us → OnOk r (AddsFunctions b c ps qs ts) → OnOk r (AddsFunctions a c ps qs us)
-  functions_after ps qs ts us (Ok u) g e f = λ so_far h. functions_as (ap (λ l. so_far ++ l) e) (f so_far (functions_kept a b (keeps g) h))
-  functions_after ps qs ts us (Err refused) g e f = f
-
-  pub functions_then : (ps qs rs : List CItem) (ts us : List ItemTree) (r : Result (Unit {0}) NoMemory) → AddsFunctions a b ps qs ts → OnOk r (AddsFunctions b c qs rs us) → OnOk r (AddsFunctions a c ps rs (ts ++ us))
-  functions_then ps qs rs ts us (Ok u) f g = functions_on ts us f g
-  functions_then ps qs rs ts us (Err refused) f g = g
 
 abbrev pub FitsFunctionTree : ItemTree → Type 0
 FitsFunctionTree (function_item linkage result name params locals body) = ⊤

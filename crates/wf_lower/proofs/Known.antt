@@ -1,7 +1,7 @@
 -- What a typed package whose names are words has of its structs, methods and variables.
-use Rattle.std.proofs.Common.{◌≡◌, ◌∙◌, ap, sym, subst, ℕ, zero, suc, ◌<◌, ◌≤◌, Bool, true, ◌&&◌, List, [], ◌∷◌, Option, Some, get_or, length, map, refl, arith}
+use Rattle.std.proofs.Common.{◌≡◌, ◌∙◌, ap, sym, subst, ℕ, zero, suc, ◌<◌, Bool, true, not, ◌&&◌, List, [], ◌∷◌, Option, Some, get_or, length, map, refl, arith}
 use Rattle.std.proofs.lemmas.List.{length-map}
-use Rattle.std.specs.Prelude.{slice_get, unwrap_or, option_map, nat_lt}
+use Rattle.std.specs.Prelude.{slice_get, unwrap_or, option_map, nat_lt, nat_eq}
 use Rattle.std.specs.List.{list_all}
 use Rattle.std.proofs.lemmas.Bool.Decides.{nat_tests}
 use Rattle.std.proofs.lemmas.Option.{slice_get-map}
@@ -14,7 +14,7 @@ use Rattle.wf_ast.specs.declared.typed_nodes.TypedNodes.{TypedNodes}
 use Rattle.wf_ast.specs.TypedInvariant.{IsTyped, block_below}
 use Rattle.wf_ast.specs.TypedPackage.{Variable, StructTree, MethodTree, PackageTree, package_of, struct_of, method_of, methods_of, variable_of}
 use Rattle.wf_ast.specs.TypedTrees.{text_of}
-use Rattle.wf_ast.specs.WellTyped.{all_structs_whole, calls_in_front, calls_known, is_among, is_whole, may_be_field, well_method, well_typed}
+use Rattle.wf_ast.specs.WellTyped.{all_structs_whole, calls_in_front, calls_known, has_struct_order, is_among, is_whole, is_whole_struct, may_be_field, structs_in_front, well_method, well_typed}
 use Rattle.wf_ast.proofs.Arena.{both_true}
 use Rattle.wf_meaning.specs.SourceState.{fields_of}
 use Rattle.c_text.specs.CSpelling.{is_word_byte}
@@ -22,7 +22,6 @@ use Rattle.wf_exprs.specs.Names.{named}
 use Rattle.wf_exprs.specs.Scopes.{are_named, is_named}
 use Rattle.wf_exprs.proofs.Prefixes.{list_all-at}
 use Rattle.wf_lower_stmts.specs.BodyNodes.{HasWords, is_spelt_method, is_spelt_struct, is_word_at}
-use Rattle.wf_lower.specs.Ordering.{field_type}
 use Rattle.wf_lower.proofs.Walks.{all_here}
 
 -- The name of a variable.
@@ -105,23 +104,6 @@ fields_held nodes typed s it is =
     let p = package_of nodes in
     sym (all_mapped (λ (v : Variable). may_be_field p v.ty) (variable_of nodes) it.fields) ∙ held_at p 0 p.structs s (struct_of nodes it) (structs_whole p typed.rules) (struct_at nodes s it is)
 
--- The type of a field, as the code reads it.
-type_here : (nodes : TypedNodes) (xs : List Var) (n : ℕ) (d : Var) → n < length xs → option_map (λ x. x.ty) (slice_get (map (variable_of nodes) xs) n) ≡ Some (get_or xs n d).ty
-type_here nodes [] n d h = absurd (omega (arith, h))
-type_here nodes (x ∷ xs) zero d h = refl
-type_here nodes (x ∷ xs) (suc n) d h = type_here nodes xs n d (omega (arith, h))
-
-pub field_type_is : (nodes : TypedNodes) (s : ℕ) (it : Struct) (xs : List Var) (n : ℕ) (d : Var) → slice_get nodes.structs s ≡ Some it → xs ≡ it.fields → n < length xs → field_type (package_of nodes) s n ≡ Some (get_or xs n d).ty
-field_type_is nodes s it xs n d is e h =
-    ap (λ fs. option_map (λ x. x.ty) (slice_get fs n)) (fields_are nodes s it is ∙ ap (map (variable_of nodes)) (sym e)) ∙ type_here nodes xs n d h
-
-pub no_field : (nodes : TypedNodes) (s : ℕ) (it : Struct) (xs : List Var) (n : ℕ) → slice_get nodes.structs s ≡ Some it → xs ≡ it.fields → length xs ≤ n → length (fields_of (package_of nodes) s) ≤ n
-no_field nodes s it xs n is e h =
-    let a = ap length (fields_are nodes s it is) in
-    let b = length-map it.fields (variable_of nodes) in
-    let c = ap length e in
-    omega (arith, h, a, b, c)
-
 -- A method with its body.
 method_with : (nodes : TypedNodes) (ms : List Method) (bodies : List Block) (n : ℕ) (m : Method) (b : Block) → slice_get ms n ≡ Some m → slice_get bodies n ≡ Some b → slice_get (methods_of nodes ms bodies) n ≡ Some (method_of nodes m b)
 method_with nodes [] bodies n m b h k = absurd (cc h)
@@ -170,4 +152,29 @@ unfolding well_typed
 in_order p h =
     let a = both_true (all_structs_whole p 0 p.structs) _ h in
     let b = both_true (list_all (well_method p) p.methods) _ a.1 in
-    order_known p [] p.order (both_true _ (calls_in_front p [] p.order) b.1).1
+    let c = both_true (nat_eq (length p.order) (length p.methods)) _ b.1 in
+    order_known p [] p.order (both_true (calls_in_front p [] p.order) (has_struct_order p) c.1).0
+
+-- And that of the structs has numbers of structs alone.
+struct_there : (known : ℕ → Bool) (ss : List StructTree) (n : ℕ) → is_whole_struct known (slice_get ss n) ≡ true → n < length ss
+struct_there known [] n h = absurd (cc h)
+struct_there known (s ∷ ss) zero h = omega arith
+struct_there known (s ∷ ss) (suc n) h = omega (arith, struct_there known ss n h)
+
+structs_known : (p : PackageTree) (front rest : List ℕ) → structs_in_front p front rest ≡ true → list_all (λ s. nat_lt s (length p.structs)) rest ≡ true
+structs_known p front [] h = refl
+structs_known p front (s ∷ ss) h =
+    let a = both_true (is_whole_struct (is_among front) (slice_get p.structs s)) _ h in
+    let b = both_true (not (is_among front s)) (structs_in_front p (s ∷ front) ss) a.1 in
+    let below = struct_there (is_among front) p.structs s a.0 in
+    let first : nat_lt s (length p.structs) ≡ true = grind (arith, nat_tests, below) in
+    ap (λ x. x && list_all (λ n. nat_lt n (length p.structs)) ss) first ∙ structs_known p (s ∷ front) ss b.1
+
+pub structs_in_order : (p : PackageTree) → well_typed p ≡ true → list_all (λ s. nat_lt s (length p.structs)) p.struct_order ≡ true
+unfolding well_typed
+structs_in_order p h =
+    let a = both_true (all_structs_whole p 0 p.structs) _ h in
+    let b = both_true (list_all (well_method p) p.methods) _ a.1 in
+    let c = both_true (nat_eq (length p.order) (length p.methods)) _ b.1 in
+    let d = both_true (calls_in_front p [] p.order) (has_struct_order p) c.1 in
+    structs_known p [] p.struct_order (both_true (nat_eq (length p.struct_order) (length p.structs)) (structs_in_front p [] p.struct_order) d.1).1

@@ -8,7 +8,6 @@ pub mod KeptLaws
 pub mod Known
 pub mod LocalLaws
 pub mod PartLaws
-pub mod Placing
 pub mod Small
 pub mod Texts
 pub mod Walks

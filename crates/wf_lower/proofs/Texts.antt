@@ -56,17 +56,6 @@ by_same a = record { more_names = λ n k. k; more_exprs = λ e k. k; more_stmts 
 pub by_none : (a b : Nodes) → IsSound a → Grows a b → GrowsBy [] a b
 by_none a b sound g = record { more_names = g.more_names; more_exprs = g.more_exprs; more_stmts = g.more_stmts; names = g.names; exprs = g.exprs; stmts = g.stmts; items = unit_kept a b g sound ∙ sym (append_nil (unit_tree a)) }
 
--- The same, where the steps may be refused memory.
-module _ (a b c : Nodes) where
-  pub by_then : (xs ys : List ItemTree) (r : Result (Unit {0}) NoMemory) → GrowsBy xs a b → OnOk r (GrowsBy ys b c) → OnOk r (GrowsBy (xs ++ ys) a c)
-  by_then xs ys (Ok u) g h = by_on xs ys g h
-  by_then xs ys (Err refused) g h = h
-
-module _ (a b : Nodes) where
-  pub by_as : (xs ys : List ItemTree) (r : Result (Unit {0}) NoMemory) → xs ≡ ys → OnOk r (GrowsBy xs a b) → OnOk r (GrowsBy ys a b)
-  by_as xs ys (Ok u) e h = by_list e h
-  by_as xs ys (Err refused) e h = h
-
 -- A string is added.
 abbrev with_string : Nodes → List ℕ → Nodes
 with_string a bytes = record a { strings = a.strings ++ bytes ∷ [] }

@@ -4,7 +4,6 @@ pub mod DemoText
 pub mod Locals
 pub mod Made
 pub mod Methods
-pub mod Ordering
 pub mod Parts
 pub mod Structs
 pub mod Unit

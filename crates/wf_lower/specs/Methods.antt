@@ -1,5 +1,5 @@
 -- What the functions of a method are made of, by the nodes of its package.
-use Rattle.std.specs.Prelude.{◌≡◌, ◌<◌, ◌++◌, ℕ, Bool, true, not, List, [], ◌∷◌, length, map, Option, Some, slice_get, if◌then◌else◌}
+use Rattle.std.specs.Prelude.{◌≡◌, ◌++◌, ℕ, Bool, true, not, List, [], ◌∷◌, length, map, Some, slice_get, if◌then◌else◌}
 use Rattle.wf_text.specs.Surface.{AnswerKind}
 use Rattle.wf_ast.specs.declared.declarations.Method.{Method}
 use Rattle.wf_ast.specs.declared.typed_code.Block as typed_code
@@ -16,7 +16,7 @@ use Rattle.c_text.specs.CFits.{HasExprs}
 use Rattle.c_text.specs.declared.nodes.CLocal.{CLocal}
 use Rattle.c_text.specs.declared.nodes.CParam.{CParam}
 use Rattle.c_text.specs.CNodes.{Nodes, expr_of, local_tree, param_tree}
-use Rattle.c_text.specs.CTree.{ExprTree, operation, Code, finish, call, ParamTree, LocalTree}
+use Rattle.c_text.specs.CTree.{ExprTree, operation, Code, call, ParamTree, LocalTree}
 use Rattle.wf_exprs.specs.Exprs.{same_op}
 use Rattle.wf_exprs.specs.Names.{body_name}
 use Rattle.wf_exprs.specs.Words.{num, args}

@@ -1,11 +1,11 @@
--- The whole text of a package: the io buffer, the structs, the statuses and helpers that are used, and the functions, each
--- after those that it calls.
-use Rattle.std.specs.Prelude.{ℕ, zero, suc, Bool, false, if◌then◌else◌, nat_eq, List, [], ◌∷◌, ◌++◌, length, None, Some, slice_get, codes}
+-- The whole text of a package: the io buffer, the structs, each after those that its fields hold, the statuses and helpers that
+-- are used, and the functions, each after those that it calls.
+use Rattle.std.specs.Prelude.{ℕ, suc, Bool, false, if◌then◌else◌, nat_eq, List, [], ◌∷◌, ◌++◌, None, Some, slice_get, codes}
 use Rattle.std.specs.List.{list_any}
 use Rattle.wf_base.specs.BaseTable.{bits_of}
 use Rattle.wf_ast.specs.declared.types.Ty.{Ty}
 use Rattle.wf_ast.specs.declared.types.Ty.TheVariants as types
-use Rattle.wf_ast.specs.TypedPackage.{Variable, StructTree, MethodTree, PackageTree}
+use Rattle.wf_ast.specs.TypedPackage.{Variable, MethodTree, PackageTree}
 use Rattle.wf_ast.specs.WellTyped.{is_coroutine}
 use Rattle.wf_meaning.specs.SourceState.{fields_of}
 use Rattle.wf_meaning.specs.Entry.{bad_receiver}
@@ -70,30 +70,6 @@ methods_fields s (m ∷ ms) = if nat_eq m.of s then coroutine_fields m ++ method
 abbrev pub struct_fields : PackageTree → (s : ℕ) → List FieldTree
 struct_fields p s = field (uint U8) (codes "life") ∷ field (uint U32) (codes "active") ∷ source_fields p (fields_of p s) ++ methods_fields s p.methods
 
--- The structs in the order of the text: each after those that its fields hold. No struct holds itself, so there are at
--- most as many levels as structs.
-abbrev pub is_placed : List ℕ → ℕ → Bool
-is_placed placed s = list_any (nat_eq s) placed
-
-abbrev pub with_parts : (List ℕ → ℕ → List ℕ) → List Variable → List ℕ → List ℕ
-with_parts place [] placed = placed
-with_parts place (x ∷ xs) placed = with_parts place xs (by_type x.ty)
-  where
-    by_type : Ty → List ℕ
-    by_type (types.Part s) = place placed s.0
-    by_type ty = placed
-
-abbrev pub place_struct : PackageTree → (levels : ℕ) → (placed : List ℕ) → (s : ℕ) → List ℕ
-place_struct p zero placed s = placed
-place_struct p (suc levels) placed s = if is_placed placed s then placed else with_parts (place_struct p levels) (fields_of p s) placed ++ s ∷ []
-
-abbrev pub place_structs : PackageTree → (n : ℕ) → List StructTree → (placed : List ℕ) → List ℕ
-place_structs p n [] placed = placed
-place_structs p n (s ∷ ss) placed = place_structs p (suc n) ss (place_struct p (length p.structs) placed n)
-
-abbrev pub struct_order : PackageTree → List ℕ
-struct_order p = place_structs p 0 p.structs []
-
 -- An init clears the struct with all that is in it, and makes it and the structs inside it ready.
 abbrev pub initialize_part : PackageTree → Variable → (rest : Code) → Code
 initialize_part p x rest = by_type x.ty
@@ -130,7 +106,7 @@ method_functions p [] = []
 method_functions p (n ∷ ns) = functions_of p n (slice_get p.methods n) ++ method_functions p ns
 
 abbrev pub all_functions : PackageTree → List ItemTree
-all_functions p = initialize_functions p (struct_order p) ++ method_functions p p.order
+all_functions p = initialize_functions p p.struct_order ++ method_functions p p.order
 
 -- Statuses and helpers stand in the text where a function reads them.
 abbrev pub is_read_in : (name : List ℕ) → ItemTree → Bool
@@ -156,4 +132,4 @@ used_helpers functions (it ∷ its) = if is_used functions (helper_name it) then
 -- The C tree of a package.
 unfoldable pub lowered_unit : PackageTree → List ItemTree
 lowered_unit p =
-    io_buffer_item ∷ struct_items p (struct_order p) ++ (used_texts (all_functions p) 0 p.statuses ++ (used_helpers (all_functions p) all_saturating ++ all_functions p))
+    io_buffer_item ∷ struct_items p p.struct_order ++ (used_texts (all_functions p) 0 p.statuses ++ (used_helpers (all_functions p) all_saturating ++ all_functions p))

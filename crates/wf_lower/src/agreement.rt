@@ -1,7 +1,6 @@
 // Worked examples: what a package is lowered to answers as the package does. Each is the contract of a function that does
 // nothing.
 
-ghost use Rattle.std.specs.Prelude.{◌≡◌};
 ghost use Rattle.wf_ast.specs.TypedPackage.{surface_of};
 ghost use Rattle.wf_meaning.specs.Demo.{demo};
 ghost use Rattle.wf_meaning.specs.Packages.{two, keep, word, resuming, nested, copies, labels, giving_up, spin};

@@ -5,7 +5,7 @@ ghost use Rattle.std.specs.Prelude.{◌≡◌, ◌<◌, ◌+◌, ◌++◌, ◌�
 ghost use Rattle.c_text.specs.CFits.{HasLocals, HasParams};
 ghost use Rattle.c_text.specs.CGrammar.{is_finish};
 ghost use Rattle.c_text.specs.CNodes.{Nodes, bytes_at, code_of, param_tree};
-ghost use Rattle.c_text.specs.CTree.{Code, assign as assign_code, case_label, empty, finish as finish_code, select};
+ghost use Rattle.c_text.specs.CTree.{Code, case_label, empty, select};
 ghost use Rattle.c_text.specs.declared.kinds.CNumber.TheVariants.{Int};
 ghost use Rattle.wf_exprs.specs.Grown.{Grows, HasCode, HasNamed};
 ghost use Rattle.wf_exprs.specs.Names.{body_name as named_body};

@@ -9,7 +9,6 @@ pub mod examples;
 mod initializing;
 mod locals;
 mod lowering;
-mod ordering;
 mod structs;
 
 pub use lowering::lower;

@@ -1,5 +1,5 @@
-// The whole text of a package: the io buffer, the structs, the statuses and helpers that are used, and the functions, each after
-// those that it calls.
+// The whole text of a package: the io buffer, the structs, each after those that its fields hold, the statuses and helpers that are
+// used, and the functions, each after those that it calls.
 
 ghost use Rattle.std.specs.Prelude.{◌≡◌, ◌<◌, ◌++◌, ◌∷◌, [], ℕ, List, true, length, slice_get, Some, IfOk, OnOk};
 ghost use Rattle.wf_base.specs.BaseTable.{bits_of};
@@ -14,14 +14,12 @@ ghost use Rattle.wf_exprs_nodes.specs.Marks.{Marks};
 ghost use Rattle.wf_lower_stmts.specs.Forms.{form_of};
 ghost use Rattle.wf_lower.specs.Bodies.{body_function as body_function_of, functions_of};
 ghost use Rattle.wf_lower.specs.Made.{AddsFunctions, AreRead, FitFunctions, FitsFunction, HasFunctionTrees, IsReady, IsSpelt, item_trees};
-ghost use Rattle.wf_lower.specs.Ordering.{are_structs};
-ghost use Rattle.wf_lower.specs.Parts.{entry_functions, functions_in, items_before, items_in, saturating_widths};
-ghost use Rattle.wf_lower.specs.Unit.{initialize_function as initialize_function_of, initialize_functions, io_buffer_item, is_read_in, lowered_unit, method_functions, struct_items, used_helpers, used_texts};
+ghost use Rattle.wf_lower.specs.Parts.{entry_functions, items_before, saturating_widths};
+ghost use Rattle.wf_lower.specs.Unit.{all_functions as all_functions_of, initialize_function as initialize_function_of, initialize_functions, io_buffer_item, is_read_in, lowered_unit, method_functions, struct_items, used_helpers, used_texts};
 
 use crate::bodies::body_function;
 use crate::entries::entry_function;
 use crate::initializing::initialize_function;
-use crate::ordering::struct_order;
 use crate::structs::{io_buffer, struct_item};
 use c_text::{CItem, CNameId, Unit};
 use std::alloc::Global;
@@ -94,17 +92,12 @@ fn put_into(items: &mut Vec<CItem>, item: CItem) -> Result<(), NoMemory>
     Ok(())
 }
 
-fn add_all_initialize(
-    p: &Source,
-    u: &mut Unit,
-    order: &[u32],
-    functions: &mut Vec<CItem>,
-) -> Result<(), NoMemory>
-    requires ready { IsReady p.now.t.now p.now.points.now.numbers }
-    requires known { are_structs (package_of p.now.t.now) order.now ≡ true }
+fn add_all_initialize(p: &Source, u: &mut Unit, functions: &mut Vec<CItem>) -> Result<(), NoMemory>
+    requires { IsReady p.now.t.now p.now.points.now.numbers }
     ensures grows { Grows u.old u.new }
-    ensures made { OnOk result (AddsFunctions u.old u.new functions.old.items functions.new.items (initialize_functions (package_of p.now.t.now) order.now)) }
+    ensures made { OnOk result (AddsFunctions u.old u.new functions.old.items functions.new.items (initialize_functions (package_of p.now.t.now) (package_of p.now.t.now).struct_order)) }
 {
+    let order = p.t.struct_order();
     for i in 0..order.len() {
         add_initialize(p, u, order[i], functions)?;
     }
@@ -180,14 +173,13 @@ fn add_methods(p: &Source, u: &mut Unit, functions: &mut Vec<CItem>) -> Result<(
 }
 
 /// All functions, in the order of the text.
-fn all_functions(p: &Source, u: &mut Unit, order: &[u32]) -> Result<Vec<CItem>, NoMemory>
-    requires ready { IsReady p.now.t.now p.now.points.now.numbers }
-    requires known { are_structs (package_of p.now.t.now) order.now ≡ true }
+fn all_functions(p: &Source, u: &mut Unit) -> Result<Vec<CItem>, NoMemory>
+    requires { IsReady p.now.t.now p.now.points.now.numbers }
     ensures grows { Grows u.old u.new }
-    ensures made { IfOk result (λ functions. HasFunctionTrees u.new functions.items (functions_in (package_of p.now.t.now) order.now)) }
+    ensures made { IfOk result (λ functions. HasFunctionTrees u.new functions.items (all_functions_of (package_of p.now.t.now))) }
 {
     let mut functions = Vec::new(p.alloc);
-    add_all_initialize(p, u, order, &mut functions)?;
+    add_all_initialize(p, u, &mut functions)?;
     add_methods(p, u, &mut functions)?;
     Ok(functions)
 }
@@ -210,11 +202,11 @@ fn add_struct(p: &Source, u: &mut Unit, s: u32) -> Result<(), NoMemory>
     put_item(u, item)
 }
 
-fn add_structs(p: &Source, u: &mut Unit, order: &[u32]) -> Result<(), NoMemory>
-    requires ready { IsReady p.now.t.now p.now.points.now.numbers }
-    requires known { are_structs (package_of p.now.t.now) order.now ≡ true }
-    ensures { OnOk result (GrowsBy (struct_items (package_of p.now.t.now) order.now) u.old u.new) }
+fn add_structs(p: &Source, u: &mut Unit) -> Result<(), NoMemory>
+    requires { IsReady p.now.t.now p.now.points.now.numbers }
+    ensures { OnOk result (GrowsBy (struct_items (package_of p.now.t.now) (package_of p.now.t.now).struct_order) u.old u.new) }
 {
+    let order = p.t.struct_order();
     for i in 0..order.len() {
         add_struct(p, u, order[i])?;
     }
@@ -304,28 +296,14 @@ fn add_functions(u: &mut Unit, functions: Vec<CItem>) -> Result<(), NoMemory>
 }
 
 /// The items before the functions, where these read these names.
-fn add_before(p: &Source, u: &mut Unit, order: &[u32], read: &ReadNames) -> Result<(), NoMemory>
-    requires ready { IsReady p.now.t.now p.now.points.now.numbers }
-    requires known { are_structs (package_of p.now.t.now) order.now ≡ true }
-    ensures { OnOk result ((functions : List ItemTree) → AreRead functions u.old.names read.now → GrowsBy (items_before (package_of p.now.t.now) order.now functions) u.old u.new) }
+fn add_before(p: &Source, u: &mut Unit, read: &ReadNames) -> Result<(), NoMemory>
+    requires { IsReady p.now.t.now p.now.points.now.numbers }
+    ensures { OnOk result ((functions : List ItemTree) → AreRead functions u.old.names read.now → GrowsBy (items_before (package_of p.now.t.now) functions) u.old u.new) }
 {
     add_buffer(p, u)?;
-    add_structs(p, u, order)?;
+    add_structs(p, u)?;
     add_texts(p, u, read)?;
     add_helpers(p, u, read)
-}
-
-/// The items, where the structs stand in this order.
-fn add_ordered(p: &Source, u: &mut Unit, order: &[u32]) -> Result<(), NoMemory>
-    requires ready { IsReady p.now.t.now p.now.points.now.numbers }
-    requires known { are_structs (package_of p.now.t.now) order.now ≡ true }
-    ensures { OnOk result (GrowsBy (items_in (package_of p.now.t.now) order.now) u.old u.new) }
-{
-    u.is_sound();
-    let functions = all_functions(p, u, order)?;
-    let read = names_read(p.alloc, u, functions.as_slice())?;
-    add_before(p, u, order, &read)?;
-    add_functions(u, functions)
 }
 
 /// The items of the text.
@@ -333,8 +311,11 @@ fn add_items(p: &Source, u: &mut Unit) -> Result<(), NoMemory>
     requires { IsReady p.now.t.now p.now.points.now.numbers }
     ensures { OnOk result (GrowsBy (lowered_unit (package_of p.now.t.now)) u.old u.new) }
 {
-    let order = struct_order(p.alloc, p.t)?;
-    add_ordered(p, u, order.as_slice())
+    u.is_sound();
+    let functions = all_functions(p, u)?;
+    let read = names_read(p.alloc, u, functions.as_slice())?;
+    add_before(p, u, &read)?;
+    add_functions(u, functions)
 }
 
 /// The C text of an accepted package whose names and status texts are spelt as C spells names and strings. `Err` where memory was

@@ -22,7 +22,6 @@ use Rattle.wf_points.proofs.StatementArena.{stmt_is}
 use Rattle.c_text.specs.declared.ids.CStmtId.{CStmtId}
 use Rattle.c_text.specs.declared.kinds.Otherwise.{Otherwise}
 use Rattle.c_text.specs.declared.kinds.Otherwise.TheVariants as else_is
-use Rattle.c_text.specs.CGrammar.{FitsElse}
 use Rattle.c_text.specs.CNodes.{Nodes, code_of}
 use Rattle.c_text.specs.CTree.{Code, branch, finish, repeat}
 use Rattle.wf_exprs.specs.Exprs.{lowered_cond}
@@ -32,9 +31,8 @@ use Rattle.wf_lower_stmts.specs.Forms.{Form}
 use Rattle.wf_lower_stmts.specs.Lower.{again_here, behind_here, lower, other_kind}
 use Rattle.wf_lower_stmts.specs.Statements.{lower_simple}
 use Rattle.wf_lower_stmts.proofs.StandLaws.{node_there}
-use Rattle.wf_lower_blocks.specs.Blocks.{HasOther, else_in, if_in, others_in, site_at}
+use Rattle.wf_lower_blocks.specs.Blocks.{HasOther, if_in, others_in, site_at}
 use Rattle.wf_lower_blocks.specs.Calls.{simple_at}
-use Rattle.wf_lower_blocks.proofs.CallLaws.{item_true}
 use Rattle.wf_lower_blocks.proofs.NodeLaws.{if_makes, is_simple, loop_makes, simply_makes}
 use Rattle.wf_lower_blocks.proofs.NodeLaws as node
 
@@ -98,22 +96,6 @@ module _ (nodes : TypedNodes) (f : Form) (numbers : List (Option ℕ)) where
         }
     simple_stmt st (Err refused) is simple h = h
 
-  -- All statements are lowered.
-  pub block_whole : {u : Nodes} {code : ℕ} (left : ℕ) (ss items : List StmtId) (tail : Code) → left ≡ 0 → ss ≡ items
-      → HasCode u code (lower f (points_by numbers) (block_made (onto (stmt_makers nodes)) (drop left ss)) tail) → HasCode u code (lower f (points_by numbers) (block_made (onto (stmt_makers nodes)) items) tail)
-  block_whole {u = u} {code = code} left ss items tail none same h =
-      let L : List StmtId → Type 0 = λ l. HasCode u code (lower f (points_by numbers) (block_made (onto (stmt_makers nodes)) l) tail) in
-      let P : ℕ → Type 0 = λ n. HasCode u code (lower f (points_by numbers) (block_made (onto (stmt_makers nodes)) (drop n ss)) tail) in
-      subst L same (subst P none h)
-
-  -- No statement is lowered yet.
-  pub block_none : {u : Nodes} {code : ℕ} (ss : List StmtId) (left : ℕ) → length ss ≤ left → code < length u.stmts
-      → HasCode u code (lower f (points_by numbers) (block_made (onto (stmt_makers nodes)) (drop left ss)) (code_of u code))
-  block_none [] zero h k = record { there = k; is = refl }
-  block_none [] (suc left) h k = record { there = k; is = refl }
-  block_none (s ∷ ss) zero h k = absurd (omega (arith, h))
-  block_none (s ∷ ss) (suc left) h k = block_none ss left (omega (arith, h)) k
-
   -- An arm before what stands after it.
   abbrev arm_code : Arm → Otherwise → (other rest : Code) → Code
   arm_code arm kind other rest = branch (lowered_cond f.names (node_cond nodes arm.cond)) (lower f (points_by numbers) (block_of nodes arm.body) finish) kind other rest
@@ -139,27 +121,6 @@ module _ (nodes : TypedNodes) (f : Form) (numbers : List (Option ℕ)) where
         };
         fits = refl;
       })
-
-  pub other_fits : {a b : Nodes} {kind : Otherwise} {code : ℕ} {block : Block} {c : Code} → HasOther a kind code block c → Grows a b → (code < length b.stmts) × FitsElse kind (code_of b code)
-  other_fits {kind = kind} {code = code} has grows =
-      let P : Code → Type 0 = FitsElse kind in
-      (grows.more_stmts code has.made.there, subst P (sym (grows.stmts code has.made.there ∙ has.made.is)) has.fits)
-
-  -- A whole `if`, from its first arm on.
-  pub if_whole : {a b u : Nodes} {kind : Otherwise} {code rest it : ℕ} (s : StmtId) (arms : List Arm) (other : Option typed_code.Block) (d : Arm) → 0 < length arms
-      → HasOther b kind code (others_in nodes s (drop 1 arms) other) (lower f (points_by numbers) (others_in nodes s (drop 1 arms) other) finish)
-      → Grows a b → rest < length a.stmts → HasCode u it (arm_code (get_or arms 0 d) kind (code_of b code) (code_of b rest))
-      → (after : Block) (tail : Code) → code_of a rest ≡ lower f (points_by numbers) after tail → HasCode u it (lower f (points_by numbers) (if_in nodes s arms other after) tail)
-  if_whole {a = a} {b = b} {kind = kind} {code = code} {rest = rest} s arms other d some so grows known one after tail is =
-      let arm = get_or arms 0 d in
-      let others = others_in nodes s (drop 1 arms) other in
-      record {
-        there = one.there;
-        is = one.is ∙ ap (λ k. arm_code arm k (code_of b code) (code_of b rest)) so.same
-            ∙ ap (λ c. arm_code arm (other_kind others) c (code_of b rest)) so.made.is
-            ∙ ap (λ c. arm_code arm (other_kind others) (lower f (points_by numbers) others finish) c) (grows.stmts rest known ∙ is)
-            ∙ ap (λ block. lower f (points_by numbers) block tail) (sym (if_first nodes s arms other after d some));
-      }
 
   -- An `if` without an arm leaves nothing.
   pub if_none : {u : Nodes} {rest : ℕ} (s : StmtId) (arms : List Arm) (other : Option typed_code.Block) → arms ≡ [] → rest < length u.stmts
@@ -193,29 +154,12 @@ else_block nodes typed k small (s ∷ ss) some below =
     let rest = block_made (onto (stmt_makers nodes)) ss in
     sym (ap other_kind (stmt_is nodes s n.0 rest n.1 typed.stmts_ordered) ∙ kind_made nodes (onto (stmt_makers nodes)) s.0 n.0.at n.0.inner n.0.stmt rest)
 
-pub else_none : (nodes : TypedNodes) (ss : List StmtId) → length ss ≡ 0 → block_made (onto (stmt_makers nodes)) ss ≡ end
-else_none nodes [] h = refl
-else_none nodes (s ∷ ss) h = absurd (omega (arith, h))
-
--- No arm is lowered yet, and all but the first one are.
-pub others_none : (nodes : TypedNodes) (s : StmtId) (arms : List Arm) (other : Option typed_code.Block) (left : ℕ) → length arms ≤ left → else_in nodes other ≡ others_in nodes s (drop left arms) other
-others_none nodes s [] None zero h = refl
-others_none nodes s [] (Some block) zero h = refl
-others_none nodes s [] None (suc left) h = refl
-others_none nodes s [] (Some block) (suc left) h = refl
-others_none nodes s (arm ∷ arms) other zero h = absurd (omega (arith, h))
-others_none nodes s (arm ∷ arms) other (suc left) h = others_none nodes s arms other left (omega (arith, h))
-
 pub others_first : {A : Type 0} (arms : List A) (left : ℕ) → left ≤ 1 → (0 < length arms → 0 < left) → drop left arms ≡ drop 1 arms
 others_first [] zero h k = refl
 others_first [] (suc left) h k = refl
 others_first (a ∷ arms) zero h k = let some : 0 < length (a ∷ arms) = omega (arith) in absurd (omega (arith, k some))
 others_first (a ∷ arms) (suc zero) h k = refl
 others_first (a ∷ arms) (suc (suc n)) h k = absurd (omega (arith, h))
-
--- A statement of a block that stands below a number does so too.
-pub item_below : (k : ℕ) (ss : List StmtId) (i : ℕ) (d : StmtId) → list_all (λ s. nat_lt s.0 k) ss ≡ true → i < length ss → (get_or ss i d).0 < k
-item_below k ss i d h l = lt_from (get_or ss i d).0 k (item_true (λ s. nat_lt s.0 k) ss i d h l)
 
 lt_more : (m k n : ℕ) → k ≤ n → nat_lt m k ≡ true → nat_lt m n ≡ true
 lt_more m k n l h = grind (arith, nat_tests, l, h)

@@ -9,7 +9,7 @@ use Rattle.wf_base.specs.declared.base_methods.BaseSig.TheVariants as sigs
 use Rattle.wf_ast.specs.declared.numbers.ExprId.{ExprId}
 use Rattle.wf_ast.specs.declared.typed_nodes.TypedNodes.{TypedNodes}
 use Rattle.wf_ast.specs.TypedInvariant.{IsTyped}
-use Rattle.wf_ast.specs.TypedTree.{lost, ValueTree, Target, Awaited, skip_fast, Called, Simple, await, perform, invoke, give_back}
+use Rattle.wf_ast.specs.TypedTree.{lost, ValueTree, Target, Awaited, skip_fast, Called, Simple, await, invoke, give_back}
 use Rattle.wf_ast.specs.TypedPackage.{MethodTree, package_of}
 use Rattle.wf_ast.specs.TypedTrees.{base_call, io_in}
 use Rattle.wf_ast.specs.WellTyped.{number_of}
@@ -21,18 +21,17 @@ use Rattle.c_text.specs.CTree.{Code}
 use Rattle.wf_exprs.specs.Grown.{HasCode}
 use Rattle.wf_lower_stmts.specs.BodyNodes.{AreAlike, target_in}
 use Rattle.wf_lower_stmts.specs.Forms.{Form, resume_here}
-use Rattle.wf_lower_stmts.specs.Statements.{awoken_call, begun_call, handed_call, lower_call, lower_plain, lower_point, lower_simple, lower_written, plain_call}
+use Rattle.wf_lower_stmts.specs.Statements.{awoken_call, begun_call, handed_call, lower_call, lower_plain, lower_point, lower_simple, plain_call}
 use Rattle.wf_lower_stmts.specs.declared.targets.Target.{Target as TargetNode}
 use Rattle.wf_lower_stmts.proofs.BodyLaws.{form_is}
 use Rattle.wf_lower_blocks.specs.declared.awaiting.Awaiting.{Awaiting}
 use Rattle.wf_lower_blocks.specs.declared.calling.Called.{Called as CalledNode}
 use Rattle.wf_lower_blocks.specs.declared.calling.Invoked.{Invoked}
-use Rattle.wf_lower_blocks.specs.declared.performing.Written.{Written as WrittenNode}
 use Rattle.wf_lower_blocks.specs.declared.performing.Written.TheVariants as writing
 use Rattle.wf_lower_blocks.specs.declared.statements.Comes.{Comes}
 use Rattle.wf_lower_blocks.specs.declared.statements.Comes.TheVariants as comes
-use Rattle.wf_lower_blocks.specs.Calls.{ComesTo, awaited_in, called_in, callee_in, given_in, is_called, no_method, written_in}
-use Rattle.wf_lower_blocks.proofs.AlikeLaws.{awoken_alike, call_alike, written_alike}
+use Rattle.wf_lower_blocks.specs.Calls.{ComesTo, awaited_in, called_in, callee_in, given_in, is_called, no_method}
+use Rattle.wf_lower_blocks.proofs.AlikeLaws.{awoken_alike, call_alike}
 
 lt_from : (m n : ℕ) → nat_lt m n ≡ true → m < n
 lt_from m n h = grind (arith, nat_tests, h)
@@ -56,12 +55,6 @@ module _ (nodes : TypedNodes) (f : Form) (k : ℕ) (rest : Code) where
             ∙ ap (λ r. begun_call f.names call (resume_here k r)) (sym (awoken_alike f k t (target_in nodes it.target) h.0 a call rest)),
       )
   await_is it x h = absurd h
-
-  perform_is : (target : TargetNode) (call : WrittenNode) (x : Simple) → ComesTo nodes (comes.Perform target call) x
-      → lower_written f.names (target_in nodes target) (written_in nodes call) rest ≡ lower_simple f k x rest
-  perform_is target call (perform at t written) h =
-      sym (written_alike f.names t (target_in nodes target) h.0 (written_in nodes call) rest) ∙ ap (λ w. lower_written f.names t w rest) h.1
-  perform_is target call x h = absurd h
 
   module _ (what : Invoked) (found : slice_get f.within.methods (number_of (called_in what.called)) ≡ Some (callee_in nodes what.called)) where
     hand_on_is : (x : Simple) → ComesTo nodes (comes.HandOn what) x
@@ -101,11 +94,6 @@ module _ (nodes : TypedNodes) (f : Form) (k : ℕ) (rest : Code) where
     await_made it (Ok code) h = λ x c. let e = await_is it x c in as_code code.0 _ _ (h e.0) e.1
     await_made it (Err refused) h = h
 
-    pub perform_made : (target : TargetNode) (call : WrittenNode) (r : Result CStmtId NoMemory) → IfOk r (λ code. HasCode u code.0 (lower_written f.names (target_in nodes target) (written_in nodes call) rest))
-        → IfOk r (λ code. (x : Simple) → ComesTo nodes (comes.Perform target call) x → HasCode u code.0 (lower_simple f k x rest))
-    perform_made target call (Ok code) h = λ x c. as_code code.0 _ _ h (perform_is target call x c)
-    perform_made target call (Err refused) h = h
-
     module _ (what : Invoked) (found : slice_get f.within.methods (number_of (called_in what.called)) ≡ Some (callee_in nodes what.called)) where
       pub hand_on_made : (r : Result CStmtId NoMemory) → IfOk r (λ code. HasCode u code.0 (resume_here k (handed_call f k (called_in what.called) (Some (callee_in nodes what.called)) (given_in nodes what.args.now) rest)))
           → IfOk r (λ code. (x : Simple) → ComesTo nodes (comes.HandOn what) x → HasCode u code.0 (lower_simple f k x rest))
@@ -131,10 +119,6 @@ module _ (nodes : TypedNodes) (f : Form) (rest : Code) (u : Nodes) (made : Comes
       let K : ℕ → Type 0 = λ j. IfOk r (λ code. (at : Place) → HasCode u code.0 (lower_point f j (await at (target_in nodes it.target) it.a (awaited_in nodes it.call)) rest)) in
       subst (λ (m : Comes). Lowers m) (sym is) (await_made nodes f n rest u it r (subst K same h))
 
-  pub perform_done : (target : TargetNode) (call : WrittenNode) → made ≡ comes.Perform target call
-      → IfOk r (λ code. HasCode u code.0 (lower_written f.names (target_in nodes target) (written_in nodes call) rest)) → Lowers made
-  perform_done target call is h = subst (λ (m : Comes). Lowers m) (sym is) (perform_made nodes f n rest u target call r h)
-
   pub hand_on_done : (what : Invoked) (k : ℕ) → slice_get f.within.methods (number_of (called_in what.called)) ≡ Some (callee_in nodes what.called) → k ≡ n → made ≡ comes.HandOn what
       → IfOk r (λ code. HasCode u code.0 (resume_here k (handed_call f k (called_in what.called) (Some (callee_in nodes what.called)) (given_in nodes what.args.now) rest))) → Lowers made
   hand_on_done what k found same is h =
@@ -144,12 +128,6 @@ module _ (nodes : TypedNodes) (f : Form) (rest : Code) (u : Nodes) (made : Comes
   pub invoke_done : (what : Invoked) (target : TargetNode) → slice_get f.within.methods (number_of (called_in what.called)) ≡ Some (callee_in nodes what.called) → made ≡ comes.Invoke target what
       → IfOk r (λ code. HasCode u code.0 (lower_call f (target_in nodes target) (called_in what.called) (callee_in nodes what.called) (given_in nodes what.args.now) rest)) → Lowers made
   invoke_done what target found is h = subst (λ (m : Comes). Lowers m) (sym is) (invoke_made nodes f n rest u what found target r h)
-
-pub nothing_done : (nodes : TypedNodes) (f : Form) (rest : Code) (u : Nodes) (made : Comes) (n s : ℕ) → made ≡ comes.Nothing → HasCode u s rest
-    → (x : Simple) → ComesTo nodes made x → HasCode u s (lower_simple f n x rest)
-nothing_done nodes f rest u made n s is h =
-    let P : Comes → Type 0 = λ m. (x : Simple) → ComesTo nodes m x → HasCode u s (lower_simple f n x rest) in
-    subst P (sym is) (λ x c. nothing_made nodes f n rest u s h x c)
 
 -- A call of `skip_u32_fast` with both its arguments.
 pub skip_comes : (nodes : TypedNodes) (target : TargetNode) (on : ValueTree) (a : ℕ) (sig : BaseSig) (given : List ExprId) (d : ExprId)

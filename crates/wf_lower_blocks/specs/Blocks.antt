@@ -1,5 +1,5 @@
 -- Blocks of a package by their statements, and what stands after the block of an `if`.
-use Rattle.std.specs.Prelude.{◌≡◌, ◌<◌, ℕ, List, [], ◌∷◌, Option, None, Some, length, option_map, slice_get, unwrap_or}
+use Rattle.std.specs.Prelude.{◌≡◌, ℕ, List, Option, None, Some, option_map, slice_get, unwrap_or}
 use Rattle.wf_ast.specs.declared.numbers.StmtId.{StmtId}
 use Rattle.wf_ast.specs.declared.typed_code.Arm.{Arm}
 use Rattle.wf_ast.specs.declared.typed_code.Block as typed_code
@@ -9,7 +9,7 @@ use Rattle.wf_ast.specs.TypedTree.{Site, Block, end}
 use Rattle.wf_ast.specs.TypedTrees.{no_place, tree_of, onto, stmt_makers, block_of, otherwise_made, if_made}
 use Rattle.c_text.specs.declared.kinds.Otherwise.{Otherwise}
 use Rattle.c_text.specs.CGrammar.{FitsElse}
-use Rattle.c_text.specs.CNodes.{Nodes, code_of}
+use Rattle.c_text.specs.CNodes.{Nodes}
 use Rattle.c_text.specs.CTree.{Code}
 use Rattle.wf_exprs.specs.Grown.{HasCode}
 use Rattle.wf_lower_stmts.specs.Lower.{other_kind}

@@ -1,6 +1,6 @@
 // A whole body as statements of C, and its end.
 
-ghost use Rattle.std.specs.Prelude.{◌≡◌, length, IsTrue, IfOk};
+ghost use Rattle.std.specs.Prelude.{length, IsTrue, IfOk};
 ghost use Rattle.wf_ast.specs.TypedInvariant.{block_below};
 ghost use Rattle.wf_ast.specs.TypedTrees.{block_of as block_in};
 ghost use Rattle.wf_exprs.specs.Grown.{Grows, HasCode};

@@ -11,9 +11,9 @@ use Rattle.wf_lower_depth_laws.proofs.ResolvedDepth.{resolving_keeps_depth}
 use Rattle.wf_lower_depth_laws.proofs.TypedDepth.{typing_keeps_depth}
 
 pub read_packages_are_within : ReadPackagesAreWithin
-read_packages_are_within name files read parsed order =
-    typing_keeps_depth (resolved_package read.name read.texts (decls_of read) order) (packages_resolve_by_grammar name files read parsed order)
-    (resolving_keeps_depth (declared read.texts (decls_of read)) read.name (decls_of read) order (read_methods_open_few name files read parsed))
+read_packages_are_within name files read parsed order struct_order =
+    typing_keeps_depth (resolved_package read.name read.texts (decls_of read) order struct_order) (packages_resolve_by_grammar name files read parsed order struct_order)
+    (resolving_keeps_depth (declared read.texts (decls_of read)) read.name (decls_of read) order struct_order (read_methods_open_few name files read parsed))
 
 pub read_texts_are_shallow : ReadTextsAreShallow
-read_texts_are_shallow name files read parsed order p tree = texts_are_shallow p (subst IsWithin (sym tree) (read_packages_are_within name files read parsed order))
+read_texts_are_shallow name files read parsed order struct_order p tree = texts_are_shallow p (subst IsWithin (sym tree) (read_packages_are_within name files read parsed order struct_order))

@@ -198,4 +198,4 @@ methods_kept d (parsed.method public owner name mark args result body at ∷ dec
     (block_kept (standing_at d (method_scope d m)) 47 [] body q.0) (methods_kept d decls q.1)
 
 pub resolving_keeps_depth : ResolvingKeepsDepth
-resolving_keeps_depth d name decls order h = methods_kept d decls h
+resolving_keeps_depth d name decls order struct_order h = methods_kept d decls h

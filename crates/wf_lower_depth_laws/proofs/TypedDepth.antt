@@ -11,7 +11,7 @@ use Rattle.wf_ast.specs.declared.operators.Op.{Op}
 use Rattle.wf_ast.specs.declared.types.Ty.{Ty}
 use Rattle.wf_ast.specs.TypedTree.{CondTree, ValueTree, Target, to_nothing, Simple, Site, Block, end}
 use Rattle.wf_ast.specs.TypedTree as typed
-use Rattle.wf_ast.specs.TypedTrees.{Sort, arithmetic, ordering, joining, sort_of, num_in, cond_in, slice_in, chain_of, answer_of}
+use Rattle.wf_ast.specs.TypedTrees.{OperatorKind, arithmetic, ordering, joining, operator_kind, num_in, cond_in, slice_in, chain_of, answer_of}
 use Rattle.wf_ast.specs.OperatorForms.{updates, is_arithmetic}
 use Rattle.wf_ast.proofs.BoolLemmas.{both, and-true}
 use Rattle.wf_named.specs.declared.nodes.NamedCallee.{NamedCallee}
@@ -52,7 +52,7 @@ not_levels behind_not r h = let l = has_one r h in omega (arith, l)
 module _ (s : Setting) where
   -- ---- expressions
 
-  operands_repeat : (op : Op) (links : NamedLinkTrees) → has_operands op links ≡ true → MayRepeat (sort_of op) (link_trees s links)
+  operands_repeat : (op : Op) (links : NamedLinkTrees) → has_operands op links ≡ true → MayRepeat (operator_kind op) (link_trees s links)
   operands_repeat op no_link h = tt
   operands_repeat op (link sign e no_link) h = tt
   operands_repeat op (link sign e (link sign_behind f others)) h = op_repeats op h
@@ -97,7 +97,7 @@ module _ (s : Setting) where
         let low = levels.0 in
         let high = levels.1 in
         number_or_within n c at (number_of s (chain op first links at)) _
-        (chain_within b at (signs_in links) (type_of s (chain op first links at)) (sort_of op) (expr_tree s first) (link_trees s links) n c (omega (arith, l, low)) (omega (arith, m, high))
+        (chain_within b at (signs_in links) (type_of s (chain op first links at)) (operator_kind op) (expr_tree s first) (link_trees s links) n c (omega (arith, l, low)) (omega (arith, m, high))
         (expr_within beside_sign b first each.0 operands.0) (links_within b links each.1 operands.1) (operands_repeat op links k.0))
     expr_within spot r (convert e t at) g h n c l m =
         let b = room_in (boxes_sign spot) r in
@@ -177,7 +177,7 @@ module _ (s : Setting) where
       (slice_of d d (path_tree s on) (path_within s on d d)) (call_within r target false (callees.Base on sig) at mark args g h d l t)
 
   -- The operator of an `op=` is one part more, round the value.
-  update_within : (sort : Sort) (at sign : Place) (ty : Ty) (a b : ValueTree) (d : ℕ) → is_arithmetic sort ≡ true → 1 ≤ d → num_within (d - 1) (num_in a) ≡ true → num_within (d - 1) (num_in b) ≡ true
+  update_within : (sort : OperatorKind) (at sign : Place) (ty : Ty) (a b : ValueTree) (d : ℕ) → is_arithmetic sort ≡ true → 1 ≤ d → num_within (d - 1) (num_in a) ≡ true → num_within (d - 1) (num_in b) ≡ true
       → value_within d (chain_of at (sign ∷ []) ty sort (a ∷ b ∷ [])) ≡ true
   update_within (arithmetic op) at sign ty a b d g l h k =
       and-true (nat_le 1 d) (num_within (d - 1) (num_in a) && num_within (d - 1) (num_in b)) (one_left d l) (and-true (num_within (d - 1) (num_in a)) (num_within (d - 1) (num_in b)) h k)
@@ -194,7 +194,7 @@ module _ (s : Setting) where
   assign_within r t (Some op) sign e u g h k j d l =
       let left = num_of (d - 1) (2 * r + 2) (written_to s t) (written_within r t g h (d - 1) (2 * r + 2) (omega (arith, l)) (omega arith)) in
       let right = num_of (d - 1) (2 * r + 3) (expr_tree s e) (expr_within alone r e k j (d - 1) (2 * r + 3) (omega (arith, l)) (omega arith)) in
-      and-true (target_within d (target_tree s t)) _ (place_within r t g h d l) (update_within (sort_of op) sign sign (type_of_update s t) (written_to s t) (expr_tree s e) d u (omega (arith, l)) left right)
+      and-true (target_within d (target_tree s t)) _ (place_within r t g h d l) (update_within (operator_kind op) sign sign (type_of_update s t) (written_to s t) (expr_tree s e) d u (omega (arith, l)) left right)
   assign_within r t None sign (answer c) u g h k j d l = assigned_call_within r (target_tree s t) c k j d l (place_within r t g h d l)
   assign_within r t None sign (number value at) u g h k j d l = plain_assign r t (number value at) g h k j d l
   assign_within r t None sign (status x at) u g h k j d l = plain_assign r t (status x at) g h k j d l

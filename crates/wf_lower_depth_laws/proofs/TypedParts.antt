@@ -11,7 +11,7 @@ use Rattle.wf_ast.specs.declared.types.Ty.{Ty}
 use Rattle.wf_ast.specs.declared.types.Ty.TheVariants as types
 use Rattle.wf_ast.specs.Same.{same_arith, arith_number}
 use Rattle.wf_ast.specs.TypedTree.{Path, local, field, arg, Arith, Order, less, at_most, equal, differs, at_least, greater, NumTree, number, read, element, link, convert, length_of, asked, slice, array, cut, status, held, no_status, CondTree, truth, flag, compare, same_status, junction, negation, closed, has_category, ValueTree, numeric, logical, state, elements, io, lost, Target}
-use Rattle.wf_ast.specs.TypedTrees.{Sort, arithmetic, ordering, joining, sort_of, num_in, cond_in, slice_in, named, num_chain, cond_chain, comparison, chain_of, answer_of, target_of, base_call}
+use Rattle.wf_ast.specs.TypedTrees.{OperatorKind, arithmetic, ordering, joining, operator_kind, num_in, cond_in, slice_in, named, num_chain, cond_chain, comparison, chain_of, answer_of, target_of, base_call}
 use Rattle.wf_ast.specs.OperatorForms as forms
 use Rattle.wf_ast.proofs.BoolLemmas.{both, and-true}
 use Rattle.wf_types_rules.specs.declared.meanings.Meaning.{Meaning}
@@ -147,17 +147,17 @@ number_or_within n c at (Some value) v h = refl
 -- ---- chains
 
 -- Where there are more than two operands, the operator may stand in a row.
-abbrev sort_repeats : Sort → Bool
+abbrev sort_repeats : OperatorKind → Bool
 sort_repeats (arithmetic op) = repeats op
 sort_repeats (ordering op) = true
 sort_repeats (joining both) = true
 
-abbrev pub MayRepeat : Sort → List ValueTree → Type 0
+abbrev pub MayRepeat : OperatorKind → List ValueTree → Type 0
 MayRepeat sort [] = Unit {0}
 MayRepeat sort (t ∷ []) = Unit {0}
 MayRepeat sort (t ∷ u ∷ ts) = sort_repeats sort ≡ true
 
-pub op_repeats : (op : Op) → forms.repeats op ≡ true → sort_repeats (sort_of op) ≡ true
+pub op_repeats : (op : Op) → forms.repeats op ≡ true → sort_repeats (operator_kind op) ≡ true
 op_repeats ops.Add h = refl
 op_repeats ops.Mul h = refl
 op_repeats ops.BitAnd h = refl
@@ -283,7 +283,7 @@ module _ (r : ℕ) where
   comparison_within at sign at_least a b n c l h k = compared at sign at_least a b c l h k
   comparison_within at sign greater a b n c l h k = compared at sign greater a b c l h k
 
-  pub chain_within : (at : Place) (signs : List Place) (ty : Ty) (sort : Sort) (a : ValueTree) (ts : List ValueTree) (n c : ℕ) → 2 * r + 1 ≤ n → 2 * r + 3 ≤ c
+  pub chain_within : (at : Place) (signs : List Place) (ty : Ty) (sort : OperatorKind) (a : ValueTree) (ts : List ValueTree) (n c : ℕ) → 2 * r + 1 ≤ n → 2 * r + 3 ≤ c
       → IsWithin beside_sign r a → Operands r ts → MayRepeat sort ts → within n c (chain_of at signs ty sort (a ∷ ts)) ≡ true
   chain_within at signs ty (arithmetic op) a ts n c l m h o k = numbers_within op _ at a ts signs n l h o k
   chain_within at signs ty (joining both_hold) a ts n c l m h o k = conds_within both_hold at a ts c m h o

@@ -24,7 +24,7 @@ ReadMethodsOpenFew = (name : List ℕ) (files : List (List ℕ)) (p : Parsed) �
 
 -- Resolving doesn't add to them, whatever names stand for.
 abbrev pub ResolvingKeepsDepth : Type 0
-ResolvingKeepsDepth = (d : Declared) (name : List ℕ) (decls : List DeclTree) (order : List ℕ) → list_all decl_opens decls ≡ true → package_opens (resolved_by d name decls order) ≡ true
+ResolvingKeepsDepth = (d : Declared) (name : List ℕ) (decls : List DeclTree) (order struct_order : List ℕ) → list_all decl_opens decls ≡ true → package_opens (resolved_by d name decls order struct_order) ≡ true
 
 -- No body has more than so many parts inside one another.
 abbrev pub IsWithin : PackageTree → Type 0
@@ -36,10 +36,10 @@ TypingKeepsDepth = (p : NamedPackageTree) → package_by_grammar p ≡ true → 
 
 -- So it is in the typed package of a package that is read, in whatever order its methods stand.
 abbrev pub ReadPackagesAreWithin : Type 0
-ReadPackagesAreWithin = (name : List ℕ) (files : List (List ℕ)) (read : Parsed) → IsParsed name files read → (order : List ℕ) → IsWithin (typed_package (resolved_package read.name read.texts (decls_of read) order))
+ReadPackagesAreWithin = (name : List ℕ) (files : List (List ℕ)) (read : Parsed) → IsParsed name files read → (order struct_order : List ℕ) → IsWithin (typed_package (resolved_package read.name read.texts (decls_of read) order struct_order))
 
 -- And its text opens no bracket where 512 are open.
 abbrev pub ReadTextsAreShallow : Type 0
 ReadTextsAreShallow =
-    (name : List ℕ) (files : List (List ℕ)) (read : Parsed) → IsParsed name files read → (order : List ℕ) (p : PackageTree)
-    → p ≡ typed_package (resolved_package read.name read.texts (decls_of read) order) → IsShallow 0 (unit_tokens (lowered_unit p))
+    (name : List ℕ) (files : List (List ℕ)) (read : Parsed) → IsParsed name files read → (order struct_order : List ℕ) (p : PackageTree)
+    → p ≡ typed_package (resolved_package read.name read.texts (decls_of read) order struct_order) → IsShallow 0 (unit_tokens (lowered_unit p))

@@ -60,16 +60,16 @@ accepted_texts_are_formed nodes typed few named short =
       complete = surface.complete;
     })
 
-named_so : (name : List ℕ) (texts : List (List ℕ)) (decls : List DeclTree) (order : List ℕ) → (typed_package (resolved_package name texts decls order)).package_name ≡ name
+named_so : (name : List ℕ) (texts : List (List ℕ)) (decls : List DeclTree) (order struct_order : List ℕ) → (typed_package (resolved_package name texts decls order struct_order)).package_name ≡ name
 unfolding typed_package
-named_so name texts decls order = refl
+named_so name texts decls order struct_order = refl
 
 pub read_texts_are_formed : ReadTextsAreFormed
-read_texts_are_formed name files read parsed kept free order nodes tree typed few =
-    let called : (package_of nodes).package_name ≡ name = ap (λ (p : PackageTree). p.package_name) tree ∙ (named_so read.name read.texts (decls_of read) order ∙ parsed.named) in
+read_texts_are_formed name files read parsed kept free order struct_order nodes tree typed few =
+    let called : (package_of nodes).package_name ≡ name = ap (λ (p : PackageTree). p.package_name) tree ∙ (named_so read.name read.texts (decls_of read) order struct_order ∙ parsed.named) in
     let P : List ℕ → Type 0 = λ z. bytes_eq z (codes "base") ≡ false in
     accepted_texts_are_formed nodes typed few (record {
-      plain = subst HasPlainNames (sym tree) (read_names_are_plain name files read parsed kept order);
-      apart = subst HasApartNames (sym tree) (read_names_are_apart name files read parsed kept order);
+      plain = subst HasPlainNames (sym tree) (read_names_are_plain name files read parsed kept order struct_order);
+      apart = subst HasApartNames (sym tree) (read_names_are_apart name files read parsed kept order struct_order);
       package_name = subst P (sym called) free;
-    }) (subst HasShortArrays (sym tree) (read_arrays_are_bounded name files read parsed kept order).short)
+    }) (subst HasShortArrays (sym tree) (read_arrays_are_bounded name files read parsed kept order struct_order).short)

@@ -16,7 +16,6 @@ use Rattle.wf_names_rules.specs.Reserved.{is_underscore, begins_with_underscore,
 use Rattle.c_text.specs.CSpelling.{is_word_byte}
 use Rattle.c_meaning.specs.UnitForm.{is_among, all_distinct}
 use Rattle.wf_exprs.specs.Names.{struct_called}
-use Rattle.wf_lower.specs.Unit.{struct_order}
 use Rattle.wf_typed_laws.specs.PlainNames.{IsPlain, ArePlain, HasPlainFields, HasPlainVariables}
 use Rattle.wf_lower_laws.specs.NameLaw.{are_named}
 use Rattle.wf_lower_laws.specs.ItemLaw.{is_clean, method_called, method_names, methods_called}
@@ -223,9 +222,9 @@ names_are_kept nodes typed h =
       variables = variables_kept p.methods h.plain.methods h.apart.args h.apart.locals;
       items = record {
         package_name = h.package_name;
-        structs = structs_distinct p h typed.rules (struct_order p) q.good.once q.good.below;
-        clean = structs_clean p h typed.rules (struct_order p) q.good.below;
-        methods = methods_apart p h typed.rules p.order o.once;
+        structs = structs_distinct p h typed.rules p.struct_order q.each.once q.each.below;
+        clean = structs_clean p h typed.rules p.struct_order q.each.below;
+        methods = methods_apart p h typed.rules p.order o.each.once;
         owners = λ n m e. (struct_clean p h typed.rules m.of (owner_below p h typed.rules n m e), all_at (λ m. is_initialize m.name ≡ false) p.methods h.apart.initialize n m e);
         few = few_of nodes typed;
       };

@@ -29,5 +29,5 @@ AcceptedTextsAreFormed =
 abbrev pub ReadTextsAreFormed : Type 0
 ReadTextsAreFormed =
     (name : List ℕ) (files : List (List ℕ)) (read : Parsed) → IsParsed name files read → ((refusal : Refusal) → Breaks (declared read.texts (decls_of read)) refusal → ⊥) → bytes_eq name (codes "base") ≡ false
-    → (order : List ℕ) (nodes : TypedNodes) → package_of nodes ≡ typed_package (resolved_package read.name read.texts (decls_of read) order) → IsTyped nodes → Decides (HasTooMany (package_of nodes)) None
+    → (order struct_order : List ℕ) (nodes : TypedNodes) → package_of nodes ≡ typed_package (resolved_package read.name read.texts (decls_of read) order struct_order) → IsTyped nodes → Decides (HasTooMany (package_of nodes)) None
     → HasUnitForm (surface_of (package_of nodes)) (lowered_unit (package_of nodes))

@@ -13,7 +13,7 @@ use Rattle.c_text.specs.declared.kinds.CNumber.TheVariants.{Int}
 use Rattle.c_text.specs.declared.kinds.CUint.TheVariants.{U8, U16, U64}
 use Rattle.c_text.specs.declared.kinds.Linkage.TheVariants.{Static}
 use Rattle.c_text.specs.CTree.{TypeTree, uint, size, boolean, uint_pointer, struct_pointer, text, ExprTree, variable, member, Code, finish, empty, nested, assign, call, jump, branch, repeat, select, leave, case_label, default_label, name_label, FieldTree, plain, ParamTree, LocalTree, ItemTree}
-use Rattle.c_meaning.specs.CTypes.{Scope, StructDecl, Function, structs_of, functions_of, scope_of, struct_named, local_name, variable_held, points_to, object, type_of, is_known, io_buffer}
+use Rattle.c_meaning.specs.CTypes.{CScope, StructDecl, Function, structs_of, functions_of, scope_of, struct_named, local_name, variable_held, points_to, object, type_of, is_known, io_buffer}
 use Rattle.c_meaning.specs.UnitForm.{Checked, checked, has_type, is_among, all_distinct, arg_params, args_params, formed_initial, formed_locals}
 use Rattle.wf_exprs.specs.Names.{struct_type, io_place, io_end, io_bytes, point_field, held_field, count_field}
 use Rattle.wf_exprs.specs.Words.{num, width_of, of_self}
@@ -125,14 +125,6 @@ among_found (x ∷ xs) l a = by (either_true (bytes_eq l x.name) (is_among (map 
         later true k = refl
         later false k = k
 
--- What is found at the front is found with anything after it.
-front_alike : (xs ys zs : List ParamTree) (l : List ℕ) → is_some (find (λ it. bytes_eq (name_of it) l) xs) ≡ true → find (λ it. bytes_eq (name_of it) l) (xs ++ ys) ≡ find (λ it. bytes_eq (name_of it) l) (xs ++ zs)
-front_alike xs ys zs l h = by (find (λ it. bytes_eq (name_of it) l) xs) refl h
-  where
-    by : (o : Option ParamTree) → find (λ it. bytes_eq (name_of it) l) xs ≡ o → is_some o ≡ true → find (λ it. bytes_eq (name_of it) l) (xs ++ ys) ≡ find (λ it. bytes_eq (name_of it) l) (xs ++ zs)
-    by None e k = absurd (cc k)
-    by (Some x) e k = found_front name_of xs ys l x e ∙ sym (found_front name_of xs zs l x e)
-
 names_same : (ls : List LocalTree) → map name_of (map local_name ls) ≡ map (λ (l : LocalTree). l.name) ls
 names_same [] = refl
 names_same (l ∷ ls) = ap (λ zs. l.name ∷ zs) (names_same ls)
@@ -234,10 +226,10 @@ module _ (p : PackageTree) (n : ℕ) (m : MethodTree) (items : List ItemTree) (a
   abbrev front_names : List ParamTree
   front_names = front p n m (structs_of B) (functions_of items)
 
-  abbrev full : Scope
+  abbrev full : CScope
   full = T p n m (structs_of B) (functions_of items)
 
-  abbrev own_scope : Scope
+  abbrev own_scope : CScope
   own_scope = scope_of B (params_of p m ++ map local_name (body_locals F))
 
   abbrev read_behind : List ParamTree
@@ -314,7 +306,7 @@ module _ (p : PackageTree) (n : ℕ) (m : MethodTree) (items : List ItemTree) (a
       let P : List (List ℕ) → Type 0 = λ z. all_distinct z ≡ true in
       distinct_front (map name_of (params_of p m)) (map name_of (map local_name (fixed_locals F))) (subst P (map_both name_of (params_of p m) (map local_name (fixed_locals F))) g.distinct)
 
-  abbrev scope_with : List ParamTree → Scope
+  abbrev scope_with : List ParamTree → CScope
   scope_with ys = scope_of B (params_of p m ++ ys)
 
   buffer_in : (ys : List ParamTree) (i : ℕ) (name : List ℕ) (ty : Ty) → slice_get m.args i ≡ Some (record { name = name; ty = ty }) → is_io ty ≡ true → type_of (scope_with ys) (variable (codes "a_" ++ name)) ≡ Some (points_to (object io_buffer))

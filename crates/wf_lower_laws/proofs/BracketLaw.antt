@@ -16,7 +16,7 @@ use Rattle.wf_meaning.specs.Remaining.{number_of}
 use Rattle.c_text.specs.declared.kinds.CNumber.TheVariants.{Int}
 use Rattle.c_text.specs.declared.kinds.COp.TheVariants.{Sub, Lt, Gt, Eq, Ne, Both, Either}
 use Rattle.c_text.specs.declared.kinds.CUnary.TheVariants.{Not, Address}
-use Rattle.c_text.specs.CTree.{ExprTree, variable, unary, Args, expr_arg, sizeof_arg, no_arg, Code, finish, empty, select, case_label, leave, LocalTree, ItemTree, ParamTree}
+use Rattle.c_text.specs.CTree.{ExprTree, variable, expr_arg, sizeof_arg, no_arg, Code, finish, empty, select, case_label, leave, LocalTree, ItemTree, ParamTree}
 use Rattle.c_text.specs.CTree as c
 use Rattle.wf_exprs.specs.Words.{num, two}
 use Rattle.wf_exprs.specs.Reads.{code_reads}

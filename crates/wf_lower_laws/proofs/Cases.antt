@@ -1,5 +1,5 @@
 -- The cases of a coroutine's `switch`: 0, and the numbers of its points in order.
-use Rattle.std.proofs.Common.{◌≡◌, ℕ, zero, suc, ◌+◌, ◌≤◌, ◌<◌, Bool, true, false, not, ◌&&◌, List, [], ◌∷◌, ◌++◌, length, map, Option, Some, None, nat_eq, refl, sym, ap, ◌∙◌, subst, arith, append_assoc}
+use Rattle.std.proofs.Common.{◌≡◌, ℕ, zero, suc, ◌+◌, ◌≤◌, ◌<◌, Bool, true, false, not, ◌&&◌, List, [], ◌∷◌, ◌++◌, length, map, Some, None, nat_eq, refl, sym, ap, ◌∙◌, subst, arith, append_assoc}
 use Rattle.std.specs.Prelude.{if◌then◌else◌, nat_le, slice_get}
 use Rattle.std.specs.List.{list_all, AllByRecursion}
 use Rattle.std.proofs.lemmas.Bool.Decides.{nat_tests}
@@ -8,7 +8,7 @@ use Rattle.wf_text.specs.Precedence.{Decides}
 use Rattle.wf_ast.specs.declared.typed_nodes.TypedNodes.{TypedNodes}
 use Rattle.wf_ast.specs.TypedTree.{Simple, break_from, continue_in, assign, await, perform, invoke, give_back, yield, claim, Site, Block, end, plain, choose, loop}
 use Rattle.wf_ast.specs.TypedInvariant.{IsTyped, numbers_from}
-use Rattle.wf_ast.specs.TypedPackage.{MethodTree, package_of}
+use Rattle.wf_ast.specs.TypedPackage.{package_of}
 use Rattle.wf_ast.specs.WellTyped.{breaks}
 use Rattle.wf_meaning.specs.Remaining.{is_point, points_in, number_of}
 use Rattle.wf_meaning.proofs.Numbers.{numbered}

@@ -19,7 +19,7 @@ use Rattle.c_text.specs.declared.kinds.COp.TheVariants.{Add, Sub, Mul, Shl, Lt, 
 use Rattle.c_text.specs.declared.kinds.CUnary.TheVariants.{Address}
 use Rattle.c_text.specs.declared.kinds.CNumber.TheVariants.{Int}
 use Rattle.c_text.specs.declared.kinds.Otherwise.TheVariants as else_is
-use Rattle.c_text.specs.CTree.{ExprTree, variable, Args, Code, finish, empty, leave, case_label, name_label, select}
+use Rattle.c_text.specs.CTree.{ExprTree, Code, finish, empty, leave, case_label, name_label}
 use Rattle.c_text.specs.CTree as c
 use Rattle.wf_exprs.specs.Names.{Names, again_label, behind_label}
 use Rattle.wf_exprs.specs.Words.{num, two, args}

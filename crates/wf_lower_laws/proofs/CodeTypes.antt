@@ -12,7 +12,7 @@ use Rattle.c_text.specs.declared.kinds.Otherwise.TheVariants.{Nothing}
 use Rattle.c_text.specs.declared.kinds.CUint.{CUint}
 use Rattle.c_text.specs.declared.kinds.CUint.TheVariants.{U8, U16, U32, U64}
 use Rattle.c_text.specs.CTree.{TypeTree, uint, size, boolean, uint_pointer, struct_pointer, text, ExprTree, variable, member, Args, Code, finish, empty, assign, call, jump, branch, repeat, select, leave, case_label, name_label}
-use Rattle.c_meaning.specs.CTypes.{Scope, ExprType, numbers, points_to, zero_literal, cell, byte, one, held_type, same_uint, is_numeric, as_number, assignable, value_type, type_of, held_of, promoted}
+use Rattle.c_meaning.specs.CTypes.{CScope, ExprType, numbers, points_to, zero_literal, cell, byte, one, held_type, same_uint, is_numeric, as_number, assignable, value_type, type_of, held_of, promoted}
 use Rattle.c_meaning.specs.CStep.{callee_of}
 use Rattle.c_meaning.specs.UnitForm.{Checked, has_type, is_number, may_assign, formed_call, formed_return}
 use Rattle.wf_exprs.specs.Words.{uint_of, width_of}
@@ -25,12 +25,12 @@ use Rattle.wf_lower_laws.proofs.Names.{either_true, both_hold}
 use Rattle.wf_lower_laws.proofs.Frames.{is_variable, is_result_of, assigns, calls}
 
 -- A value that may be assigned to a cell of a type.
-pub record Fits (S : Scope) (t : TypeTree) (e : ExprTree) : Type 0 where
+pub record Fits (S : CScope) (t : TypeTree) (e : ExprTree) : Type 0 where
   pub type : ExprType
   pub is : type_of S e ≡ Some type
   pub fits : assignable t type ≡ true
 
-pub num_fits : (S : Scope) (t : TypeTree) (e : ExprTree) → is_numeric t ≡ true → IsNum S e → Fits S t e
+pub num_fits : (S : CScope) (t : TypeTree) (e : ExprTree) → is_numeric t ≡ true → IsNum S e → Fits S t e
 num_fits S t e h n = record { type = n.type; is = n.is; fits = by n.type n.ty n.counts }
   where
     by : (type : ExprType) (ty : CTy) → as_number type ≡ Some ty → assignable t type ≡ true
@@ -38,7 +38,7 @@ num_fits S t e h n = record { type = n.type; is = n.is; fits = by n.type n.ty n.
     by zero_literal ty k = refl
     by (points_to p) ty k = absurd (cc k)
 
-pub text_fits : (S : Scope) (e : ExprTree) → IsText S e → Fits S text e
+pub text_fits : (S : CScope) (e : ExprTree) → IsText S e → Fits S text e
 text_fits S e (inl h) =
     let P : ExprTree → Type 0 = λ e. Fits S text e in
     subst P (sym h) (record { type = zero_literal; is = refl; fits = refl })
@@ -50,20 +50,20 @@ same_width U16 = refl
 same_width U32 = refl
 same_width U64 = refl
 
-pub pointer_fits : (S : Scope) (bits : ℕ) (e : ExprTree) → IsPointer S bits e → Fits S (uint_pointer (width_of bits)) e
+pub pointer_fits : (S : CScope) (bits : ℕ) (e : ExprTree) → IsPointer S bits e → Fits S (uint_pointer (width_of bits)) e
 pointer_fits S bits e h = record { type = points_to (cell (uint_of bits)); is = h; fits = same_width (width_of bits) }
 
 -- The same value where it is held in a cell.
-pub held_fits : (S : Scope) (t : TypeTree) (e : ExprTree) → type_of S e ≡ Some (value_type t) → assignable t (value_type t) ≡ true → Fits S t e
+pub held_fits : (S : CScope) (t : TypeTree) (e : ExprTree) → type_of S e ≡ Some (value_type t) → assignable t (value_type t) ≡ true → Fits S t e
 held_fits S t e h k = record { type = value_type t; is = h; fits = k }
 
 -- Cells: what may be assigned to.
 module _ (Settled : List ℕ → Type 0) where
-  pub record Cell (S : Scope) (t : TypeTree) (e : ExprTree) : Type 0 where
+  pub record Cell (S : CScope) (t : TypeTree) (e : ExprTree) : Type 0 where
     pub held : held_of S e ≡ Some (one t)
     pub settled : (name : List ℕ) → is_variable name e ≡ true → Settled name
 
-  pub record NumCell (S : Scope) (e : ExprTree) : Type 0 where
+  pub record NumCell (S : CScope) (e : ExprTree) : Type 0 where
     pub type : TypeTree
     pub numeric : is_numeric type ≡ true
     pub cell : Cell S type e
@@ -77,14 +77,14 @@ number_value (struct_pointer name) h = absurd (cc h)
 number_value text h = absurd (cc h)
 
 -- What a cell of numbers holds is a number.
-pub variable_num : (S : Scope) (t : TypeTree) (name : List ℕ) → is_numeric t ≡ true → held_of S (variable name) ≡ Some (one t) → IsNum S (variable name)
+pub variable_num : (S : CScope) (t : TypeTree) (name : List ℕ) → is_numeric t ≡ true → held_of S (variable name) ≡ Some (one t) → IsNum S (variable name)
 variable_num S t name h k = let v = number_value t h in record { type = value_type t; is = ap (option_and_then held_type) k; ty = v.0; counts = v.1 }
 
-pub member_num : (S : Scope) (t : TypeTree) (of : ExprTree) (name : List ℕ) → is_numeric t ≡ true → held_of S (member of name) ≡ Some (one t) → IsNum S (member of name)
+pub member_num : (S : CScope) (t : TypeTree) (of : ExprTree) (name : List ℕ) → is_numeric t ≡ true → held_of S (member of name) ≡ Some (one t) → IsNum S (member of name)
 member_num S t of name h k = let v = number_value t h in record { type = value_type t; is = ap (option_and_then held_type) k; ty = v.0; counts = v.1 }
 
 module _ (c : Checked) (Settled : List ℕ → Type 0) (CallOk : List ℕ → Type 0) where
-  abbrev S : Scope
+  abbrev S : CScope
   S = c.scope
 
   pub record CodeOk (code : Code) : Type 0 where
@@ -108,9 +108,6 @@ module _ (c : Checked) (Settled : List ℕ → Type 0) (CallOk : List ℕ → Ty
       by : (a name ≡ true) ⊎ (b name ≡ true) → Settled name ⊎ (read name ≡ true)
       by (inl k) = f name k
       by (inr k) = g name k
-
-  none_fair : (read : List ℕ → Bool) → Fair (λ name. false) read
-  none_fair read name h = absurd (cc h)
 
   either_call : (a b : List ℕ → Bool) → ((name : List ℕ) → a name ≡ true → CallOk name) → ((name : List ℕ) → b name ≡ true → CallOk name) → (name : List ℕ) → (a name || b name) ≡ true → CallOk name
   either_call a b f g name h = by (either_true (a name) (b name) h)

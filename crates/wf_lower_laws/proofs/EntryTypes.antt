@@ -3,7 +3,7 @@ use Rattle.std.proofs.Common.{◌≡◌, ◌⊎◌, inl, inr, ℕ, zero, suc, �
 use Rattle.std.specs.Prelude.{if◌then◌else◌, find, slice_get, bytes_eq, codes, is_some}
 use Rattle.std.specs.List.{list_all, AllByRecursion}
 use Rattle.wf_text.specs.Surface as surface
-use Rattle.wf_text.specs.Surface.{PublicArg, AnswerKind}
+use Rattle.wf_text.specs.Surface.{AnswerKind}
 use Rattle.wf_base.specs.BaseTable.{bits_of}
 use Rattle.wf_base.specs.declared.marks.Mark.{Mark}
 use Rattle.wf_base.specs.declared.marks.Mark.TheVariants.{Pure, Impure, Coroutine}
@@ -19,7 +19,7 @@ use Rattle.c_text.specs.declared.kinds.CUint.TheVariants.{U8, U32}
 use Rattle.c_text.specs.declared.kinds.CUnary.TheVariants.{Not}
 use Rattle.c_text.specs.declared.kinds.Linkage.TheVariants.{External}
 use Rattle.c_text.specs.CTree.{TypeTree, uint, size, boolean, uint_pointer, struct_pointer, text, ExprTree, variable, element, unary, Code, finish, assign, ParamTree, ItemTree}
-use Rattle.c_meaning.specs.CTypes.{Scope, Function, structs_of, functions_of, scope_of, struct_named, function_named, local_name, variable_held, ExprType, points_to, byte, one, numbers, value_type, type_of, held_of, arg_types, is_known, assignable, passable, io_buffer, promoted}
+use Rattle.c_meaning.specs.CTypes.{CScope, Function, structs_of, functions_of, scope_of, struct_named, function_named, local_name, variable_held, ExprType, points_to, byte, one, numbers, value_type, type_of, held_of, arg_types, is_known, assignable, passable, io_buffer, promoted}
 use Rattle.c_meaning.specs.CStep.{callee_of}
 use Rattle.c_meaning.specs.UnitForm.{uint_of as form_uint, Checked, checked, all_distinct, is_among, has_type, is_called, may_keep, formed_call, formed_return, formed_locals, answer_type, arg_params, args_params}
 use Rattle.wf_exprs.specs.Names.{struct_type, body_name, status_name}
@@ -71,10 +71,10 @@ module _ (p : PackageTree) (n : ℕ) (m : MethodTree) (items : List ItemTree) (a
   abbrev own_names : List ParamTree
   own_names = params_of p m ++ map local_name (answer_locals kind)
 
-  abbrev S : Scope
+  abbrev S : CScope
   S = scope_of B own_names
 
-  abbrev T : Scope
+  abbrev T : CScope
   T = record { structs = structs_of B; texts = all_texts 0 p.statuses; functions = functions_of all_saturating ++ functions_of items; names = own_names }
 
   abbrev C : Checked

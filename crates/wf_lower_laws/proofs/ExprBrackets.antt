@@ -17,7 +17,7 @@ use Rattle.c_text.specs.declared.kinds.COp.TheVariants.{Add, Sub, Mul, Div, Rem,
 use Rattle.c_text.specs.declared.kinds.CUnary.{CUnary}
 use Rattle.c_text.specs.declared.kinds.CUnary.TheVariants.{Not}
 use Rattle.c_text.specs.CSpelling.{op_bytes}
-use Rattle.c_text.specs.CTree.{TypeTree, ExprTree, variable, member, operation, unary, cast, choice, called, Operands, no_operand, operand, Args, no_arg, expr_arg}
+use Rattle.c_text.specs.CTree.{TypeTree, ExprTree, variable, member, operation, unary, cast, choice, called, Operands, no_operand, operand}
 use Rattle.c_text.specs.CTree as c
 use Rattle.wf_exprs.specs.Names.{Names}
 use Rattle.wf_exprs.specs.Words.{num, uint_of, two}
@@ -29,9 +29,6 @@ use Rattle.wf_lower_laws.proofs.OpenBrackets.{ExprOpens, OperandsOpen}
 -- No more than so many inside one another.
 pub record ExprBy (d : ℕ) (e : ExprTree) : Type 0 where
   pub by : (n : ℕ) → n + d ≤ 512 → ExprOpens n e
-
-pub easy_by : (d : ℕ) (e : ExprTree) → ((n : ℕ) → ExprOpens n e) → ExprBy d e
-easy_by d e h = record { by = λ n m. h n }
 
 pub by_more : (d k : ℕ) (e : ExprTree) → d ≤ k → ExprBy d e → ExprBy k e
 by_more d k e l h = record { by = λ n m. h.by n (omega (arith, l, m)) }

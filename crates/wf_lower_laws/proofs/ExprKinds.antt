@@ -20,13 +20,13 @@ use Rattle.c_text.specs.CTree.{uint, ExprTree, variable, member, operation, unar
 use Rattle.c_text.specs.CTree as c
 use Rattle.c_text.specs.declared.kinds.CUint.{CUint}
 use Rattle.c_meaning.specs.CValues.{common}
-use Rattle.c_meaning.specs.CTypes.{Scope, promoted, ExprType, numbers, points_to, zero_literal, byte, as_number, arithmetic_type, sum_type, one_type, test_type, operation_type, operations_type, type_of, operand_types, cast_from, literal_type}
+use Rattle.c_meaning.specs.CTypes.{CScope, promoted, ExprType, numbers, points_to, zero_literal, byte, as_number, arithmetic_type, sum_type, one_type, test_type, operation_type, operations_type, type_of, operand_types, cast_from, literal_type}
 use Rattle.wf_exprs.specs.Names.{Names}
 use Rattle.wf_exprs.specs.Words.{literal, num, uint_of, width_of, two}
 use Rattle.wf_exprs.specs.Exprs.{calculated, rank, Rated, rated, recast, firm, balanced, with_operand, same_op, chained, cut_off, factor, linked, converted, is_held, is_array as is_whole, moved, part_pointer, part_length, io_code, place_code, end_code, peeked, raised, peek_code, asked_code, same_code, compared, is_literal, is_constant, statuses_compared, begins_with, category_code, lowered, lowered_slice, lowered_end, lowered_status, lowered_cond}
 use Rattle.wf_lower_laws.specs.KindLaw.{IsNum, IsPointer, IsText, IsBuffer, Declares, has_op, has_question, num_served, slice_served, end_served, status_served, cond_served, ExpressionsKeepKinds}
 
-module _ (S : Scope) where
+module _ (S : CScope) where
   of_literal : (n : CNumber) → IsNum S (c.number n)
   of_literal (literals.Int n) = record { type = literal_type (literals.Int n); is = refl; ty = Int; counts = by (nat_eq n 0) }
     where

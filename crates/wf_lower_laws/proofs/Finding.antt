@@ -104,12 +104,6 @@ distinct_front (l ∷ ls) ms d =
 
 -- ---- items
 
-pub structs_both : (xs ys : List ItemTree) → structs_of (xs ++ ys) ≡ structs_of xs ++ structs_of ys
-structs_both [] ys = refl
-structs_both (struct_item fields name ∷ xs) ys = ap (λ zs. record { fields = fields; name = name } ∷ zs) (structs_both xs ys)
-structs_both (text_item name bytes ∷ xs) ys = structs_both xs ys
-structs_both (function_item linkage result_type name params locals body ∷ xs) ys = structs_both xs ys
-
 pub texts_both : (xs ys : List ItemTree) → texts_of (xs ++ ys) ≡ texts_of xs ++ texts_of ys
 texts_both [] ys = refl
 texts_both (struct_item fields name ∷ xs) ys = texts_both xs ys

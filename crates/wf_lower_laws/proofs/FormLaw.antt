@@ -15,7 +15,7 @@ use Rattle.wf_meaning.specs.Remaining.{number_of}
 use Rattle.wf_points.specs.PointNumbers.{HasTooMany}
 use Rattle.c_text.specs.declared.kinds.CNumber.TheVariants.{Int}
 use Rattle.c_text.specs.declared.kinds.Linkage.TheVariants.{Static}
-use Rattle.c_text.specs.CTree.{TypeTree, ExprTree, Code, finish, empty, jump, repeat, select, case_label, ParamTree, LocalTree, ItemTree, struct_item, text_item, function_item}
+use Rattle.c_text.specs.CTree.{Code, finish, empty, jump, repeat, select, case_label, ItemTree, struct_item, text_item, function_item}
 use Rattle.c_text.specs.CTree as tree
 use Rattle.c_meaning.specs.CStep.{Continuation, stop, behind, again, Place, at, by_name, find}
 use Rattle.c_meaning.specs.CTypes.{structs_of, scope_of, is_known, local_name}
@@ -60,9 +60,6 @@ controls_easy c = record {
   empties = λ rest k. tt;
   cases = λ n rest k. tt;
 }
-
-straight_numbers : (code : Code) → Straight finish code → case_numbers code ≡ []
-straight_numbers code s = straight_cases finish code s
 
 -- Code that is formed where it is typed.
 record Sound (c : Checked) (code : Code) : Type 0 where

@@ -3,7 +3,7 @@ use Rattle.std.proofs.Common.{◌≡◌, ◌⊎◌, inl, inr, ℕ, Bool, true, f
 use Rattle.std.specs.Prelude.{option_map, option_and_then, is_none, is_some, bytes_eq}
 use Rattle.std.proofs.lemmas.Slice.Eq.{bytes_eq-Decides}
 use Rattle.c_text.specs.CTree.{TypeTree, ExprTree, number, variable, member, element, pointed, operation, unary, cast, choice, called, Operands, no_operand, operand, Args, no_arg, expr_arg, sizeof_arg, Code, finish, nested, empty, assign, call, jump, branch, repeat, select, leave, case_label, default_label, name_label}
-use Rattle.c_meaning.specs.CTypes.{Scope, Function, StructDecl, ExprType, numbers, points_to, zero_literal, cell, object, byte, held_type, field_held, struct_named, function_named, field_named, variable_held, member_held, pointed_held, element_held, operations_type, unary_type, cast_from, choice_type, called_type, type_of, held_of, operand_types, arg_types, value_type, passable, one}
+use Rattle.c_meaning.specs.CTypes.{CScope, Function, StructDecl, ExprType, numbers, points_to, zero_literal, cell, object, byte, held_type, field_held, struct_named, function_named, field_named, variable_held, member_held, pointed_held, element_held, operations_type, unary_type, cast_from, choice_type, called_type, type_of, held_of, operand_types, arg_types, value_type, passable, one}
 use Rattle.c_meaning.specs.CStep.{Callee, memory_move, own, callee_of}
 use Rattle.c_meaning.specs.UnitForm.{Checked, is_number, may_assign, formed_call, formed_return, is_called, is_moved, may_keep}
 use Rattle.wf_exprs.specs.Reads.{expr_reads, operands_read, args_read, target_reads, result_reads, value_reads, code_reads}
@@ -16,7 +16,7 @@ same_bytes l = (bytes_eq-Decides l l).1 refl
 pub two_same : {A B C : Type 0} (f : A → B → C) (a c : A) (b d : B) → a ≡ c → b ≡ d → f a b ≡ f c d
 two_same f a c b d h j = ap (λ x. f x b) h ∙ ap (f c) j
 
-pub record Agreed (S T : Scope) (name : List ℕ) : Type 0 where
+pub record Agreed (S T : CScope) (name : List ℕ) : Type 0 where
   pub held : variable_held S name ≡ variable_held T name
   pub function : function_named S.functions name ≡ function_named T.functions name
 
@@ -60,11 +60,11 @@ calls name (default_label rest) = calls name rest
 calls name (name_label label rest) = calls name rest
 
 -- A function that may be called by its name in both scopes. None clears an object.
-pub record CallAgreed (S T : Scope) (name : List ℕ) : Type 0 where
+pub record CallAgreed (S T : CScope) (name : List ℕ) : Type 0 where
   pub function : function_named S.functions name ≡ function_named T.functions name
   pub moves : (callee_of name ≡ own) ⊎ (callee_of name ≡ memory_move)
 
-module _ (S T : Scope) (h : S.structs ≡ T.structs) where
+module _ (S T : CScope) (h : S.structs ≡ T.structs) where
   abbrev Agree : ((name : List ℕ) → Bool) → Type 0
   Agree reads = (name : List ℕ) → reads name ≡ true → Agreed S T name
 

@@ -13,7 +13,7 @@ use Rattle.c_meaning.specs.UnitForm.{is_among, all_distinct, item_name}
 use Rattle.wf_exprs.specs.Names.{struct_called, status_name}
 use Rattle.wf_exprs.specs.Helpers.{all_saturating}
 use Rattle.wf_lower.specs.Bodies.{functions_of, entry_function}
-use Rattle.wf_lower.specs.Unit.{struct_order, struct_items, initialize_functions, method_functions, all_functions, is_used, used_texts, helper_name, used_helpers, lowered_unit}
+use Rattle.wf_lower.specs.Unit.{struct_items, initialize_functions, method_functions, all_functions, is_used, used_texts, helper_name, used_helpers, lowered_unit}
 use Rattle.wf_lower_laws.specs.NameLaw.{begins}
 use Rattle.wf_lower_laws.specs.ItemLaw.{is_clean, method_called, method_names, methods_called, HasItemNames, ItemsNameApart}
 use Rattle.wf_lower_laws.proofs.Apart.{neither, left_or, right_or, not_true}
@@ -389,7 +389,7 @@ module _ (p : PackageTree) (h : HasItemNames p) where
           no_seam (struct_called p m.of) m.name (subst P (w_one (struct_called p s) (method_called p m) (sym e ∙ g)) k)
 
   abbrev A : List (List ℕ)
-  A = map item_name (struct_items p (struct_order p))
+  A = map item_name (struct_items p p.struct_order)
 
   abbrev T : List (List ℕ)
   T = map item_name (used_texts (all_functions p) 0 p.statuses)
@@ -398,7 +398,7 @@ module _ (p : PackageTree) (h : HasItemNames p) where
   H = map item_name (used_helpers (all_functions p) all_saturating)
 
   abbrev I : List (List ℕ)
-  I = map item_name (initialize_functions p (struct_order p))
+  I = map item_name (initialize_functions p p.struct_order)
 
   abbrev M : List (List ℕ)
   M = map item_name (method_functions p p.order)
@@ -409,8 +409,8 @@ module _ (p : PackageTree) (h : HasItemNames p) where
   functions_apart : all_distinct (I ++ M) ≡ true
   functions_apart =
       let P : List (List ℕ) → Type 0 = λ ls. all_distinct ls ≡ true in
-      distinct_both I M (subst P (sym (inits_named (struct_order p))) (distinct_map (λ x. W (x ++ codes "__initialize")) init_one (map (struct_called p) (struct_order p)) h.structs)) (methods_distinct p.order h.methods)
-      (differ I M (init_or_method (struct_order p) p.order h.clean))
+      distinct_both I M (subst P (sym (inits_named p.struct_order)) (distinct_map (λ x. W (x ++ codes "__initialize")) init_one (map (struct_called p) p.struct_order) h.structs)) (methods_distinct p.order h.methods)
+      (differ I M (init_or_method p.struct_order p.order h.clean))
 
   behind_apart : all_distinct (T ++ (H ++ (I ++ M))) ≡ true
   behind_apart =
@@ -418,21 +418,21 @@ module _ (p : PackageTree) (h : HasItemNames p) where
       let F : List ℕ → Bool = λ l. begins (codes "sat_") l in
       distinct_by S T (H ++ (I ++ M)) (text_passes S (λ x. refl) (all_functions p) 0 p.statuses)
       (all_both (λ l. not (S l)) H (I ++ M) (helpers_all (λ l. not (S l)) (all_functions p) all_saturating refl)
-      (all_both (λ l. not (S l)) I M (init_passes (λ l. not (S l)) (λ x. refl) (struct_order p) h.clean) (method_passes (λ l. not (S l)) (λ x. (refl, refl)) p.order)))
+      (all_both (λ l. not (S l)) I M (init_passes (λ l. not (S l)) (λ x. refl) p.struct_order h.clean) (method_passes (λ l. not (S l)) (λ x. (refl, refl)) p.order)))
       (texts_distinct (all_functions p) 0 p.statuses (omega (arith, h.few)))
       (distinct_by F H (I ++ M) (helpers_all F (all_functions p) all_saturating refl)
-      (all_both (λ l. not (F l)) I M (init_passes (λ l. not (F l)) (λ x. refl) (struct_order p) h.clean) (method_passes (λ l. not (F l)) (λ x. (refl, refl)) p.order))
+      (all_both (λ l. not (F l)) I M (init_passes (λ l. not (F l)) (λ x. refl) p.struct_order h.clean) (method_passes (λ l. not (F l)) (λ x. (refl, refl)) p.order))
       (helpers_distinct (all_functions p) all_saturating helper_names_distinct) functions_apart)
 
   no_struct : (l : List ℕ) → is_among A l ≡ true → is_among (T ++ (H ++ (I ++ M))) l ≡ true → ⊥
   no_struct l a b = text (either_true (is_among T l) (is_among (H ++ (I ++ M)) l) (sym (list_any-append (bytes_eq l) T (H ++ (I ++ M))) ∙ b))
     where
       wuffs : begins (codes "wuffs_") l ≡ true
-      wuffs = among_passes (begins (codes "wuffs_")) A l (struct_passes (begins (codes "wuffs_")) (λ x. refl) (struct_order p) h.clean) a
+      wuffs = among_passes (begins (codes "wuffs_")) A l (struct_passes (begins (codes "wuffs_")) (λ x. refl) p.struct_order h.clean) a
 
       function : (is_among I l ≡ true) ⊎ (is_among M l ≡ true) → ⊥
-      function (inl t) = struct_or_init (struct_order p) (struct_order p) h.clean h.clean l a t
-      function (inr t) = struct_or_method (struct_order p) p.order h.clean l a t
+      function (inl t) = struct_or_init p.struct_order p.struct_order h.clean h.clean l a t
+      function (inr t) = struct_or_method p.struct_order p.order h.clean l a t
 
       helper : (is_among H l ≡ true) ⊎ (is_among (I ++ M) l ≡ true) → ⊥
       helper (inl t) = absurd (cc (wuffs, not_true (begins (codes "wuffs_") l) (among_passes (λ l. not (begins (codes "wuffs_") l)) H l (helpers_all (λ l. not (begins (codes "wuffs_") l)) (all_functions p) all_saturating refl) t)))
@@ -446,11 +446,11 @@ module _ (p : PackageTree) (h : HasItemNames p) where
   items_apart =
       let D : List ℕ → Bool = λ l. not (bytes_eq (codes "wuffs_base__io_buffer") l) in
       let P : List (List ℕ) → Type 0 = λ ls. all_distinct ls ≡ true in
-      let structs = subst P (sym (structs_named (struct_order p))) (distinct_map W w_one (map (struct_called p) (struct_order p)) h.structs) in
+      let structs = subst P (sym (structs_named p.struct_order)) (distinct_map W w_one (map (struct_called p) p.struct_order) h.structs) in
       let rest = distinct_both A (T ++ (H ++ (I ++ M))) structs behind_apart (differ A (T ++ (H ++ (I ++ M))) no_struct) in
       let others : list_all D (A ++ (T ++ (H ++ (I ++ M)))) ≡ true =
-      all_both D A (T ++ (H ++ (I ++ M))) (struct_passes D not_it (struct_order p) h.clean) (all_both D T (H ++ (I ++ M)) (text_passes D (λ x. refl) (all_functions p) 0 p.statuses)
-      (all_both D H (I ++ M) (helpers_all D (all_functions p) all_saturating refl) (all_both D I M (init_passes D not_it (struct_order p) h.clean) (method_passes D (λ x. (refl, not_it x)) p.order)))) in
+      all_both D A (T ++ (H ++ (I ++ M))) (struct_passes D not_it p.struct_order h.clean) (all_both D T (H ++ (I ++ M)) (text_passes D (λ x. refl) (all_functions p) 0 p.statuses)
+      (all_both D H (I ++ M) (helpers_all D (all_functions p) all_saturating refl) (all_both D I M (init_passes D not_it p.struct_order h.clean) (method_passes D (λ x. (refl, not_it x)) p.order)))) in
       rw (alone (A ++ (T ++ (H ++ (I ++ M)))) others, rest) refl
     where
       not_it : (x : List ℕ) → not (bytes_eq (codes "wuffs_base__io_buffer") (W x)) ≡ true
@@ -472,11 +472,11 @@ items_name_apart p h =
     let P : List (List ℕ) → Type 0 = λ ls. all_distinct (codes "wuffs_base__io_buffer" ∷ ls) ≡ true in
     subst P (sym (parts p)) (items_apart p h)
   where
-    parts : (p : PackageTree) → map item_name (struct_items p (struct_order p) ++ (used_texts (all_functions p) 0 p.statuses ++ (used_helpers (all_functions p) all_saturating ++ all_functions p)))
-        ≡ map item_name (struct_items p (struct_order p)) ++ (map item_name (used_texts (all_functions p) 0 p.statuses) ++ (map item_name (used_helpers (all_functions p) all_saturating)
-        ++ (map item_name (initialize_functions p (struct_order p)) ++ map item_name (method_functions p p.order))))
+    parts : (p : PackageTree) → map item_name (struct_items p p.struct_order ++ (used_texts (all_functions p) 0 p.statuses ++ (used_helpers (all_functions p) all_saturating ++ all_functions p)))
+        ≡ map item_name (struct_items p p.struct_order) ++ (map item_name (used_texts (all_functions p) 0 p.statuses) ++ (map item_name (used_helpers (all_functions p) all_saturating)
+        ++ (map item_name (initialize_functions p p.struct_order) ++ map item_name (method_functions p p.order))))
     parts p =
-        map_both item_name (struct_items p (struct_order p)) _
-        ∙ ap (λ ls. map item_name (struct_items p (struct_order p)) ++ ls) (map_both item_name (used_texts (all_functions p) 0 p.statuses) _
+        map_both item_name (struct_items p p.struct_order) _
+        ∙ ap (λ ls. map item_name (struct_items p p.struct_order) ++ ls) (map_both item_name (used_texts (all_functions p) 0 p.statuses) _
         ∙ ap (λ ls. map item_name (used_texts (all_functions p) 0 p.statuses) ++ ls) (map_both item_name (used_helpers (all_functions p) all_saturating) _
-        ∙ ap (λ ls. map item_name (used_helpers (all_functions p) all_saturating) ++ ls) (map_both item_name (initialize_functions p (struct_order p)) (method_functions p p.order))))
+        ∙ ap (λ ls. map item_name (used_helpers (all_functions p) all_saturating) ++ ls) (map_both item_name (initialize_functions p p.struct_order) (method_functions p p.order))))

@@ -12,14 +12,14 @@ use Rattle.wf_meaning.specs.Entry.{bad_receiver}
 use Rattle.wf_meaning.specs.SourceState.{fields_of}
 use Rattle.c_text.specs.declared.kinds.Linkage.TheVariants.{External, Static}
 use Rattle.c_text.specs.CTree.{text, struct_pointer, FieldTree, ParamTree, LocalTree, ItemTree, struct_item, text_item, function_item}
-use Rattle.c_meaning.specs.CTypes.{Scope, structs_of, functions_of, scope_of, struct_named, local_name, held_type, variable_held}
+use Rattle.c_meaning.specs.CTypes.{CScope, structs_of, functions_of, scope_of, struct_named, local_name, held_type, variable_held}
 use Rattle.c_meaning.specs.UnitForm.{is_among, all_distinct, item_name}
 use Rattle.wf_exprs.specs.Names.{struct_type, initialize_name, body_name, entry_name, status_name}
 use Rattle.wf_exprs.specs.Exprs.{status_constant}
 use Rattle.wf_exprs.specs.Helpers.{all_saturating}
 use Rattle.wf_lower_stmts.specs.Forms.{form_of}
 use Rattle.wf_lower.specs.Bodies.{functions_of as method_items, params_of, result_of, fixed_locals, body_locals, body_code, own_names, touched, body_function, answer_locals, entry_function, entry_code}
-use Rattle.wf_lower.specs.Unit.{io_buffer_item, struct_fields, struct_order, struct_items, initialize_code, initialize_function, initialize_functions, method_functions, all_functions, is_used, used_texts, helper_name, used_helpers, lowered_unit}
+use Rattle.wf_lower.specs.Unit.{io_buffer_item, struct_fields, struct_items, initialize_code, initialize_function, initialize_functions, method_functions, all_functions, is_used, used_texts, helper_name, used_helpers, lowered_unit}
 use Rattle.wf_lower_laws.specs.FieldLaw.{is_short, HasFieldNames, HasShortArrays}
 use Rattle.wf_lower_laws.specs.FormLaw.{typed_item}
 use Rattle.wf_lower_laws.specs.ItemLaw.{HasItemNames}
@@ -150,7 +150,7 @@ module _ (p : PackageTree) (well : well_typed p ≡ true) (named : HasItemNames 
   placed = structs_ordered p well
 
   abbrev I : List ItemTree
-  I = initialize_functions p (struct_order p)
+  I = initialize_functions p p.struct_order
 
   abbrev M : List ItemTree
   M = method_functions p p.order
@@ -183,7 +183,7 @@ module _ (p : PackageTree) (well : well_typed p ≡ true) (named : HasItemNames 
   items_are items rest e = let P : List ItemTree → Type 0 = AreFunctions in functions_front items rest (subst P e (functions_are p))
 
   struct_in : (items : List ItemTree) (s : ℕ) → s < length p.structs → Stands (struct_item (struct_fields p s) (struct_type p s)) (before_function p items)
-  struct_in items s l = stands_later _ io_buffer_item _ (stands_front _ (structs_part p) _ (in_structs p (struct_order p) s (placed.all s l)))
+  struct_in items s l = stands_later _ io_buffer_item _ (stands_front _ (structs_part p) _ (in_structs p p.struct_order s (placed.each.all s l)))
 
   own_struct : (items rest : List ItemTree) → all_functions p ≡ items ++ rest → (s : ℕ) → s < length p.structs
       → struct_named (structs_of (before_function p items)) (struct_type p s) ≡ Some (record { fields = struct_fields p s; name = struct_type p s })
@@ -230,17 +230,17 @@ module _ (p : PackageTree) (well : well_typed p ≡ true) (named : HasItemNames 
 
   -- ---- functions that make structs ready
 
-  refused : (items rest : List ItemTree) → all_functions p ≡ items ++ rest → (s : ℕ) → has (struct_order p) s ≡ true → IsText (scope_of (before_function p items) (record { kind = struct_pointer (struct_type p s); name = codes "self" } ∷ [])) (status_constant bad_receiver)
+  refused : (items rest : List ItemTree) → all_functions p ≡ items ++ rest → (s : ℕ) → has p.struct_order s ≡ true → IsText (scope_of (before_function p items) (record { kind = struct_pointer (struct_type p s); name = codes "self" } ∷ [])) (status_constant bad_receiver)
   refused items rest e s h = by (constant_text full p.statuses refl (omega (arith, named.few)) bad_receiver (base bad_receiver (omega arith)) refl)
     where
       params : List ParamTree
       params = record { kind = struct_pointer (struct_type p s); name = codes "self" } ∷ []
 
-      full : Scope
+      full : CScope
       full = record { structs = []; texts = all_texts 0 p.statuses; functions = []; names = record { kind = struct_pointer (struct_type p s); name = codes "self" } ∷ [] }
 
       init_there : Stands (initialize_function p s) (all_functions p)
-      init_there = stands_front (initialize_function p s) I M (in_inits p (struct_order p) s h)
+      init_there = stands_front (initialize_function p s) I M (in_inits p p.struct_order s h)
 
       used : is_used (all_functions p) (status_name bad_receiver) ≡ true
       used = used_by (all_functions p) init_there.0 (initialize_function p s) (status_name bad_receiver) init_there.1 (left_or _ _ (left_or (bytes_eq (status_name bad_receiver) (status_name bad_receiver)) _ (same_bytes (status_name bad_receiver))))
@@ -254,14 +254,14 @@ module _ (p : PackageTree) (well : well_typed p ≡ true) (named : HasItemNames 
       by (inl k) = absurd (cc k)
       by (inr k) = inr (ap (option_and_then held_type) alike ∙ k)
 
-  inits_from : (done rest : List ℕ) → struct_order p ≡ done ++ rest → Rising p done rest → TypedFrom (before_function p (initialize_functions p done)) (initialize_functions p rest)
+  inits_from : (done rest : List ℕ) → p.struct_order ≡ done ++ rest → Rising p done rest → TypedFrom (before_function p (initialize_functions p done)) (initialize_functions p rest)
   inits_from done [] e r = tt
   inits_from done (s ∷ rest) e r =
       let items = initialize_functions p done in
       let parts : all_functions p ≡ items ++ (initialize_functions p (s ∷ rest) ++ M) = ap (λ z. initialize_functions p z ++ M) e ∙ (ap (λ z. z ++ M) (inits_both p done (s ∷ rest)) ∙ append_assoc items (initialize_functions p (s ∷ rest)) M) in
       let P : List ℕ → Type 0 = λ z. has z s ≡ true in
-      let there : has (struct_order p) s ≡ true = subst P (sym e) (list_any-append (nat_eq s) done (s ∷ rest) ∙ right_or (has done s) _ (left_or (nat_eq s s) (has rest s) (grind (arith, nat_tests)))) in
-      let l = placed.good.below s there in
+      let there : has p.struct_order s ≡ true = subst P (sym e) (list_any-append (nat_eq s) done (s ∷ rest) ∙ right_or (has done s) _ (left_or (nat_eq s s) (has rest s) (grind (arith, nat_tests)))) in
+      let l = placed.each.below s there in
       let names = front_names items (initialize_functions p (s ∷ rest) ++ M) parts in
       let is = own_struct items (initialize_functions p (s ∷ rest) ++ M) parts s l in
       let Q : List ItemTree → Type 0 = λ z. TypedFrom z (initialize_functions p rest) in
@@ -374,7 +374,7 @@ module _ (p : PackageTree) (well : well_typed p ≡ true) (named : HasItemNames 
         }
 
     body_there : Stands (body_function (form_of p m)) (all_functions p)
-    body_there = stands_behind (body_function (form_of p m)) I M (in_bodies p p.order n m (ordered.all n (slice_get_within p.methods n m e)) e)
+    body_there = stands_behind (body_function (form_of p m)) I M (in_bodies p p.order n m (ordered.each.all n (slice_get_within p.methods n m e)) e)
 
     own_body_typed : typed_item (before_function p items) (body_function (form_of p m)) ≡ true
     own_body_typed =
@@ -399,7 +399,7 @@ module _ (p : PackageTree) (well : well_typed p ≡ true) (named : HasItemNames 
           parts ∙ (ap (λ z. items ++ (z ++ method_functions p rest)) own_items ∙ sym (append_assoc items (body_function (form_of p m) ∷ []) (entry_function p n m ∷ method_functions p rest)))
 
       entry_place : Stands (entry_function p n m) (all_functions p)
-      entry_place = stands_behind (entry_function p n m) I M (in_methods p p.order n m (ordered.all n (slice_get_within p.methods n m e)) e public)
+      entry_place = stands_behind (entry_function p n m) I M (in_methods p p.order n m (ordered.each.all n (slice_get_within p.methods n m e)) e public)
 
       own_entry_typed : typed_item (before_function p with_body) (entry_function p n m) ≡ true
       own_entry_typed =
@@ -467,8 +467,8 @@ module _ (p : PackageTree) (well : well_typed p ≡ true) (named : HasItemNames 
       let io = io_buffer_item ∷ [] in
       let P : List ItemTree → Type 0 = λ z. TypedFrom z (I ++ M) in
       let functions : TypedFrom (((io ++ A) ++ X) ++ H) (I ++ M) =
-      subst P (sym (append_assoc (io ++ A) X H ∙ append_assoc io A (X ++ H) ∙ ap (λ z. io ++ (A ++ (X ++ z))) (sym (append-nil H)))) (from_both (before_function p []) I M (inits_from [] (struct_order p) refl placed.good.rising) (let Q : List ItemTree → Type 0 = λ z. TypedFrom z M in subst Q (front_of_methods) (methods_from [] [] p.order refl ordered.calls (λ j k. absurd (cc k))))) in
-      from_both io A (X ++ (H ++ (I ++ M))) (structs_from [] (struct_order p) placed.good.rising) (from_both (io ++ A) X (H ++ (I ++ M)) (texts_from (io ++ A) (all_functions p) 0 p.statuses)
+      subst P (sym (append_assoc (io ++ A) X H ∙ append_assoc io A (X ++ H) ∙ ap (λ z. io ++ (A ++ (X ++ z))) (sym (append-nil H)))) (from_both (before_function p []) I M (inits_from [] p.struct_order refl placed.rises) (let Q : List ItemTree → Type 0 = λ z. TypedFrom z M in subst Q (front_of_methods) (methods_from [] [] p.order refl ordered.calls (λ j k. absurd (cc k))))) in
+      from_both io A (X ++ (H ++ (I ++ M))) (structs_from [] p.struct_order placed.rises) (from_both (io ++ A) X (H ++ (I ++ M)) (texts_from (io ++ A) (all_functions p) 0 p.statuses)
       (from_both ((io ++ A) ++ X) H (I ++ M) (helpers_from ((io ++ A) ++ X) (all_functions p) all_saturating helpers_typed) functions))
     where
       front_of_methods : before_function p (in_front []) ≡ before_function p [] ++ I

@@ -7,7 +7,7 @@ use Rattle.wf_exprs.specs.Names.{struct_type, status_name}
 use Rattle.wf_exprs.specs.Helpers.{saturating, all_saturating}
 use Rattle.wf_lower_stmts.specs.Forms.{form_of}
 use Rattle.wf_lower.specs.Bodies.{functions_of, body_function, entry_function}
-use Rattle.wf_lower.specs.Unit.{io_buffer_item, struct_fields, struct_order, struct_items, initialize_function, initialize_functions, method_functions, all_functions, is_used, used_texts, helper_name, used_helpers, lowered_unit}
+use Rattle.wf_lower.specs.Unit.{io_buffer_item, struct_fields, struct_items, initialize_function, initialize_functions, method_functions, all_functions, is_used, used_texts, helper_name, used_helpers, lowered_unit}
 
 module _ (P : ItemTree → Type 0) where
   -- It holds of each item of a list.
@@ -76,8 +76,8 @@ module _ (P : ItemTree → Type 0) where
     unfolding lowered_unit
     in_unit = (
       h.buffer,
-      both (struct_items p (struct_order p)) _ (in_structs (struct_order p))
+      both (struct_items p p.struct_order) _ (in_structs p.struct_order)
           (both (used_texts (all_functions p) 0 p.statuses) _ (in_texts (all_functions p) 0 p.statuses)
           (both (used_helpers (all_functions p) all_saturating) (all_functions p) (in_helpers (all_functions p) all_saturating saturatings)
-          (both (initialize_functions p (struct_order p)) (method_functions p p.order) (in_inits (struct_order p)) (in_methods p.order)))),
+          (both (initialize_functions p p.struct_order) (method_functions p p.order) (in_inits p.struct_order) (in_methods p.order)))),
     )

@@ -19,7 +19,7 @@ use Rattle.c_text.specs.declared.kinds.CUnary.TheVariants.{Address}
 use Rattle.c_text.specs.declared.kinds.Linkage.TheVariants.{Static}
 use Rattle.c_text.specs.CSpelling.{is_word_byte}
 use Rattle.c_text.specs.CTree.{TypeTree, uint, size, boolean, uint_pointer, struct_pointer, text, variable, member, unary, plain, FieldTree, ParamTree, LocalTree}
-use Rattle.c_meaning.specs.CTypes.{Scope, StructDecl, Function, functions_of, struct_named, function_named, local_name, points_to, object, byte, one, held_type, value_type, is_numeric, type_of, held_of, io_buffer, assignable, address_type}
+use Rattle.c_meaning.specs.CTypes.{CScope, StructDecl, Function, functions_of, struct_named, function_named, local_name, points_to, object, byte, one, held_type, value_type, is_numeric, type_of, held_of, io_buffer, assignable, address_type}
 use Rattle.c_meaning.specs.CStep.{callee_of, own as own_function, memory_move}
 use Rattle.c_meaning.specs.UnitForm.{Checked, is_among, all_distinct, args_params, arg_params}
 use Rattle.wf_exprs.specs.Names.{named, local_name as source_local, local_pointer, local_length, arg_name, arg_pointer, arg_length, io_place, io_end, io_bytes, field_name, status_name, struct_type, body_name, entry_name, point_field, saved_field, held_field, count_field}
@@ -116,7 +116,7 @@ module _ (p : PackageTree) (n : ℕ) (m : MethodTree) (structs : List StructDecl
   abbrev pub behind : List ParamTree
   behind = map local_name (bytes_locals f 0 m.args) ++ (map local_name further_locals ++ map local_name resume_locals)
 
-  abbrev pub T : Scope
+  abbrev pub T : CScope
   T = record { structs = structs; texts = all_texts 0 p.statuses; functions = functions_of all_saturating ++ fs; names = front ++ behind }
 
   abbrev pub c : Checked

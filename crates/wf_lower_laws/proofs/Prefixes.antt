@@ -12,7 +12,7 @@ use Rattle.wf_exprs.specs.Names.{status_name}
 use Rattle.wf_exprs.specs.Helpers.{all_saturating}
 use Rattle.wf_exprs.specs.Reads.{code_reads}
 use Rattle.wf_lower.specs.Bodies.{functions_of as method_items, entry_function, only_read}
-use Rattle.wf_lower.specs.Unit.{io_buffer_item, struct_order, struct_items, initialize_functions, method_functions, all_functions, is_read_in, is_used, used_texts, used_helpers}
+use Rattle.wf_lower.specs.Unit.{io_buffer_item, struct_items, initialize_functions, method_functions, all_functions, is_read_in, is_used, used_texts, used_helpers}
 use Rattle.wf_lower_laws.specs.NameLaw.{begins}
 use Rattle.wf_lower_laws.proofs.Apart.{left_or, right_or}
 use Rattle.wf_lower_laws.proofs.Names.{both_hold, among_passes}
@@ -88,7 +88,7 @@ module _ (p : PackageTree) where
   methods_are (n ∷ ns) = functions_join (method_items p n (slice_get p.methods n)) (method_functions p ns) (method_are n (slice_get p.methods n)) (methods_are ns)
 
   pub functions_are : AreFunctions (all_functions p)
-  functions_are = functions_join (initialize_functions p (struct_order p)) (method_functions p p.order) (inits_are (struct_order p)) (methods_are p.order)
+  functions_are = functions_join (initialize_functions p p.struct_order) (method_functions p p.order) (inits_are p.struct_order) (methods_are p.order)
 
 texts_functions : (functions : List ItemTree) (n : ℕ) (ts : List (List ℕ)) → functions_of (used_texts functions n ts) ≡ []
 texts_functions functions n [] = refl
@@ -125,7 +125,7 @@ helpers_all U functions (function_item linkage result_type name params locals bo
 
 module _ (p : PackageTree) where
   abbrev pub structs_part : List ItemTree
-  structs_part = struct_items p (struct_order p)
+  structs_part = struct_items p p.struct_order
 
   abbrev pub texts_part : List ItemTree
   texts_part = used_texts (all_functions p) 0 p.statuses
@@ -140,13 +140,13 @@ module _ (p : PackageTree) where
   module _ (functions : List ItemTree) (are : AreFunctions functions) where
     texts_are : texts_of (before_function functions) ≡ texts_of texts_part
     texts_are =
-        texts_both structs_part (texts_part ++ (helpers_part ++ functions)) ∙ (ap (λ z. z ++ texts_of (texts_part ++ (helpers_part ++ functions))) (structs_texts p (struct_order p))
+        texts_both structs_part (texts_part ++ (helpers_part ++ functions)) ∙ (ap (λ z. z ++ texts_of (texts_part ++ (helpers_part ++ functions))) (structs_texts p p.struct_order)
         ∙ (texts_both texts_part (helpers_part ++ functions) ∙ (ap (λ z. texts_of texts_part ++ z) (texts_both helpers_part functions ∙ (ap (λ z. z ++ texts_of functions) (no_texts helpers_part (helpers_are (all_functions p) all_saturating tt)) ∙ no_texts functions are))
         ∙ append-nil (texts_of texts_part))))
 
     functions_are_so : functions_of (before_function functions) ≡ functions_of helpers_part ++ functions_of functions
     functions_are_so =
-        functions_both structs_part (texts_part ++ (helpers_part ++ functions)) ∙ (ap (λ z. z ++ functions_of (texts_part ++ (helpers_part ++ functions))) (structs_functions p (struct_order p))
+        functions_both structs_part (texts_part ++ (helpers_part ++ functions)) ∙ (ap (λ z. z ++ functions_of (texts_part ++ (helpers_part ++ functions))) (structs_functions p p.struct_order)
         ∙ (functions_both texts_part (helpers_part ++ functions) ∙ (ap (λ z. z ++ functions_of (helpers_part ++ functions)) (texts_functions (all_functions p) 0 p.statuses) ∙ functions_both helpers_part functions)))
 
     -- A name that a function of the text reads.

@@ -7,7 +7,7 @@ use Rattle.wf_meaning.specs.SourceState.{fields_of}
 use Rattle.c_text.specs.declared.kinds.CUint.TheVariants.{U8, U32, U64}
 use Rattle.wf_num.specs.declared.c_arithmetic.CTy.TheVariants as ctys
 use Rattle.c_text.specs.CTree.{TypeTree, uint, size, boolean, uint_pointer, struct_pointer, ExprTree, variable, member, choice, plain, FieldTree, ParamTree}
-use Rattle.c_meaning.specs.CTypes.{Scope, struct_named, points_to, cell, object, one, held_type, cell_held, field_held, value_type, member_held, field_of, type_of, held_of, io_buffer, numbers}
+use Rattle.c_meaning.specs.CTypes.{CScope, struct_named, points_to, cell, object, one, held_type, cell_held, field_held, value_type, member_held, field_of, type_of, held_of, io_buffer, numbers}
 use Rattle.c_meaning.specs.UnitForm.{all_distinct}
 use Rattle.wf_exprs.specs.Names.{struct_type}
 use Rattle.wf_exprs.specs.Words.{self, of_self}
@@ -30,7 +30,7 @@ name_of it = it.name
 
 -- ---- names, buffers and the receiver's fields
 
-module _ (S : Scope) where
+module _ (S : CScope) where
   pub name_held : (x : ParamTree) → find (λ it. bytes_eq it.name x.name) S.names ≡ Some x → held_of S (variable x.name) ≡ Some (one x.kind)
   name_held x h = rw h refl
 
@@ -39,9 +39,6 @@ module _ (S : Scope) where
 
   -- Members of a reader or writer.
   module _ (io : struct_named S.structs io_buffer ≡ Some (record { fields = io_fields; name = io_buffer })) (e : ExprTree) (h : type_of S e ≡ Some (points_to (object io_buffer))) where
-    pub io_length : held_of S (member e (codes "len")) ≡ Some (one size)
-    io_length = rw (h, io) refl
-
     pub io_written : held_of S (member e (codes "wi")) ≡ Some (one size)
     io_written = rw (h, io) refl
 

@@ -6,7 +6,7 @@ use Rattle.std.proofs.lemmas.Slice.Eq.{bytes_eq-Decides}
 use Rattle.wf_ast.specs.WellTyped.{is_width}
 use Rattle.c_text.specs.declared.kinds.Linkage.TheVariants.{StaticInline}
 use Rattle.c_text.specs.CTree.{leave, finish, ExprTree, variable, ItemTree, struct_item, text_item, function_item}
-use Rattle.c_meaning.specs.CTypes.{Scope, TextDecl, Function, texts_of, functions_of, function_named, points_to, byte, passable, type_of, value_type, promoted}
+use Rattle.c_meaning.specs.CTypes.{CScope, TextDecl, Function, texts_of, functions_of, function_named, points_to, byte, passable, type_of, value_type, promoted}
 use Rattle.c_meaning.specs.UnitForm.{all_distinct}
 use Rattle.wf_exprs.specs.Names.{status_name}
 use Rattle.wf_exprs.specs.Words.{num, width_of, uint_of}
@@ -59,7 +59,7 @@ text_there k n (bytes ∷ ts) (suc i) e few h = by (bytes_eq (status_name k) (st
     by false t = t
 
 -- A status is a string where no local has its name.
-pub constant_text : (S : Scope) (ts : List (List ℕ)) → S.texts ≡ all_texts 0 ts → length ts < 2 ^ 64 → (n : ℕ) → is_some (slice_get ts n) ≡ true → find (λ it. bytes_eq it.name (status_name n)) S.names ≡ None → IsText S (status_constant n)
+pub constant_text : (S : CScope) (ts : List (List ℕ)) → S.texts ≡ all_texts 0 ts → length ts < 2 ^ 64 → (n : ℕ) → is_some (slice_get ts n) ≡ true → find (λ it. bytes_eq it.name (status_name n)) S.names ≡ None → IsText S (status_constant n)
 constant_text S ts same few n there none = by (nat_eq n 0)
   where
     held : (o : Option TextDecl) → is_some o ≡ true → text_at (status_name n) S.texts ≡ o → type_of S (variable (status_name n)) ≡ Some (points_to byte)
@@ -139,7 +139,7 @@ helper_there sum bits w = widths (nat_eq bits 8) (nat_eq bits 16) (nat_eq bits 3
     widths false false false false p q r t w = absurd (cc w)
 
 -- The function of a saturating operator gives a number.
-pub saturated_num : (S : Scope) (fs : List Function) → S.functions ≡ functions_of all_saturating ++ fs → (sum : Bool) (bits : ℕ) (x y : ExprTree) → is_width bits ≡ true → IsNum S x → IsNum S y → IsNum S (saturated sum bits x y)
+pub saturated_num : (S : CScope) (fs : List Function) → S.functions ≡ functions_of all_saturating ++ fs → (sum : Bool) (bits : ℕ) (x y : ExprTree) → is_width bits ≡ true → IsNum S x → IsNum S y → IsNum S (saturated sum bits x y)
 saturated_num S fs same sum bits x y w h j =
     record { type = value_type (uint_of bits); is = rw (found, passed) refl; ty = promoted (width_of bits); counts = refl }
   where

@@ -15,7 +15,7 @@ use Rattle.c_text.specs.declared.kinds.CUint.TheVariants.{U8, U16, U64}
 use Rattle.c_text.specs.declared.kinds.CUnary.TheVariants.{Not, Address}
 use Rattle.c_text.specs.declared.kinds.Linkage.TheVariants.{External}
 use Rattle.c_text.specs.CTree.{TypeTree, uint, text, struct_pointer, ExprTree, unary, Code, finish, leave, plain, FieldTree, ParamTree, ItemTree}
-use Rattle.c_meaning.specs.CTypes.{Scope, StructDecl, Function, structs_of, functions_of, scope_of, struct_named, function_named, points_to, object, type_of, held_of, is_known, address_type, passable, arg_types}
+use Rattle.c_meaning.specs.CTypes.{CScope, StructDecl, Function, structs_of, functions_of, scope_of, struct_named, function_named, points_to, object, type_of, held_of, is_known, address_type, passable, arg_types}
 use Rattle.c_meaning.specs.CStep.{own as own_function}
 use Rattle.c_meaning.specs.UnitForm.{Checked, checked, is_length, is_called, all_distinct, formed_field, formed_fields, formed_call, formed_return, may_assign, has_type}
 use Rattle.wf_exprs.specs.Names.{struct_type, initialize_name, point_field, saved_field, held_field, count_field}
@@ -146,7 +146,7 @@ module _ (p : PackageTree) (s : ℕ) (B : List ItemTree) where
   abbrev own_params : List ParamTree
   own_params = record { kind = struct_pointer (struct_type p s); name = codes "self" } ∷ []
 
-  abbrev S : Scope
+  abbrev S : CScope
   S = scope_of B own_params
 
   abbrev C : Checked

@@ -17,7 +17,7 @@ use Rattle.c_meaning.specs.UnitForm.{is_among, all_distinct, item_name, args_par
 use Rattle.wf_exprs.specs.Names.{struct_called, struct_type, entry_name, initialize_name as lowering_name}
 use Rattle.wf_lower_stmts.specs.Forms.{form_of}
 use Rattle.wf_lower.specs.Bodies.{params_of, result_of, functions_of, body_function, answer_locals, entry_code, entry_function}
-use Rattle.wf_lower.specs.Unit.{struct_fields, struct_order, struct_items, initialize_code, initialize_function, initialize_functions, method_functions, all_functions, used_texts, used_helpers, lowered_unit}
+use Rattle.wf_lower.specs.Unit.{struct_fields, struct_items, initialize_code, initialize_function, initialize_functions, method_functions, all_functions, used_texts, used_helpers, lowered_unit}
 use Rattle.wf_exprs.specs.Helpers.{all_saturating}
 use Rattle.wf_lower_laws.specs.SurfaceLaw.{TextsMeetSurfaces}
 use Rattle.wf_lower_laws.proofs.Apart.{has, left_or, right_or, not_true}
@@ -169,22 +169,22 @@ module _ (p : PackageTree) where
   function_there : (item : ItemTree) → Stands item (all_functions p) → Stands item (lowered_unit p)
   unfolding lowered_unit
   function_there item h =
-      stands_later item _ _ (stands_behind item (struct_items p (struct_order p)) _ (stands_behind item (used_texts (all_functions p) 0 p.statuses) _ (stands_behind item (used_helpers (all_functions p) all_saturating) (all_functions p) h)))
+      stands_later item _ _ (stands_behind item (struct_items p p.struct_order) _ (stands_behind item (used_texts (all_functions p) 0 p.statuses) _ (stands_behind item (used_helpers (all_functions p) all_saturating) (all_functions p) h)))
 
-  struct_there : (item : ItemTree) → Stands item (struct_items p (struct_order p)) → Stands item (lowered_unit p)
+  struct_there : (item : ItemTree) → Stands item (struct_items p p.struct_order) → Stands item (lowered_unit p)
   unfolding lowered_unit
-  struct_there item h = stands_later item _ _ (stands_front item (struct_items p (struct_order p)) _ h)
+  struct_there item h = stands_later item _ _ (stands_front item (struct_items p p.struct_order) _ h)
 
   module _ (o : AreOrdered p) (q : StructsOrdered p) where
     abbrev items : List ItemTree
     items = lowered_unit p
 
     init_there : (s : ℕ) → s < length p.structs → Stands (initialize_function p s) items
-    init_there s l = function_there (initialize_function p s) (stands_front (initialize_function p s) (initialize_functions p (struct_order p)) (method_functions p p.order) (in_inits (struct_order p) s (q.all s l)))
+    init_there s l = function_there (initialize_function p s) (stands_front (initialize_function p s) (initialize_functions p p.struct_order) (method_functions p p.order) (in_inits p.struct_order s (q.each.all s l)))
 
     method_there : (n : ℕ) (m : MethodTree) → slice_get p.methods n ≡ Some m → m.public ≡ true → Stands (entry_function p n m) items
     method_there n m e g =
-        function_there (entry_function p n m) (stands_behind (entry_function p n m) (initialize_functions p (struct_order p)) (method_functions p p.order) (in_methods p.order n m (o.all n (slice_get_within p.methods n m e)) e g))
+        function_there (entry_function p n m) (stands_behind (entry_function p n m) (initialize_functions p p.struct_order) (method_functions p p.order) (in_methods p.order n m (o.each.all n (slice_get_within p.methods n m e)) e g))
 
     -- A public struct by its number.
     record IsStruct (it : PublicStruct) : Type 0 where
@@ -267,7 +267,7 @@ module _ (p : PackageTree) where
           by true more =
               let it = public_one n s in
               let h = is_one n s ss at in
-              (record { item = struct_item (struct_fields p n) (struct_type p n); there = struct_there _ (in_structs (struct_order p) n (q.all n h.below)); named = type_named surface it own h; structure = refl }, more)
+              (record { item = struct_item (struct_fields p n) (struct_type p n); there = struct_there _ (in_structs p.struct_order n (q.each.all n h.below)); named = type_named surface it own h; structure = refl }, more)
           by false more = more
 
 -- ---- what is met

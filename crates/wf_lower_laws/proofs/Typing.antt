@@ -21,9 +21,9 @@ use Rattle.wf_meaning.specs.Remaining.{is_point, hands_on}
 use Rattle.c_text.specs.declared.kinds.CUint.TheVariants.{U8, U64}
 use Rattle.c_text.specs.declared.kinds.COp.TheVariants.{Add, Sub, Mul, Shl, Lt, Gt, Ge, Eq, Both}
 use Rattle.c_text.specs.declared.kinds.CNumber.TheVariants.{Int}
-use Rattle.c_text.specs.CTree.{TypeTree, uint, size, boolean, uint_pointer, struct_pointer, text, ExprTree, variable, member, Code, finish, empty, leave, case_label, name_label, ParamTree}
+use Rattle.c_text.specs.CTree.{TypeTree, uint, size, boolean, uint_pointer, struct_pointer, text, ExprTree, variable, member, Code, finish, empty, leave, name_label, ParamTree}
 use Rattle.c_text.specs.CTree as c_tree
-use Rattle.c_meaning.specs.CTypes.{Scope, Function, points_to, object, byte, one, assignable, passable, type_of, held_of, arg_types, function_named, io_buffer, held_type, value_type, promoted, numbers}
+use Rattle.c_meaning.specs.CTypes.{CScope, Function, points_to, object, byte, one, assignable, passable, type_of, held_of, arg_types, function_named, io_buffer, held_type, value_type, promoted, numbers}
 use Rattle.wf_num.specs.declared.c_arithmetic.CTy.TheVariants as ctys
 use Rattle.c_meaning.specs.CStep.{Callee, callee_of, own as own_function}
 use Rattle.c_meaning.specs.UnitForm.{uint_of as form_uint, Checked, has_type, formed_return, formed_call, is_called, may_keep, answer_type, arg_params, args_params}
@@ -162,7 +162,7 @@ abbrev pub around : Form → Context
 around f = record { within = f.within; method = f.method }
 
 module _ (c : Checked) (f : Form) (Settled : List ℕ → Type 0) (CallOk : List ℕ → Type 0) where
-  abbrev S : Scope
+  abbrev S : CScope
   S = c.scope
 
   abbrev x : Context
@@ -1067,9 +1067,6 @@ module _ (c : Checked) (f : Form) (Settled : List ℕ → Type 0) (CallOk : List
         wanted false e h = refl
 
     -- ---- returns
-
-    method_result : (mark : Mark) → m.mark ≡ mark → result_of m ≡ answer_type (answers_of mark m.gives)
-    method_result mark e = ap (λ z. answer_type (answers_of z m.gives)) e
 
     asked_ok : (e : ExprTree) (rest : Code) → IsText S e → result_of m ≡ Some text → Ok rest
         → Ok (if is_coroutine m.mark then c_tree.assign status_local e (when (begins_with 36 status_local) (c_tree.assign status_local (status_constant cannot_suspend) finish) (give f (Some status_local) rest)) else give f (Some e) rest)

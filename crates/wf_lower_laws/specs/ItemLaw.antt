@@ -4,7 +4,7 @@ use Rattle.std.specs.List.{list_all}
 use Rattle.wf_ast.specs.TypedPackage.{MethodTree, PackageTree}
 use Rattle.c_meaning.specs.UnitForm.{all_distinct, item_name}
 use Rattle.wf_exprs.specs.Names.{struct_called}
-use Rattle.wf_lower.specs.Unit.{struct_order, lowered_unit}
+use Rattle.wf_lower.specs.Unit.{lowered_unit}
 
 -- A name without two `_` in a row, that doesn't end with one.
 abbrev pub is_clean : List ℕ → Bool
@@ -27,8 +27,8 @@ methods_called p (n ∷ ns) = method_names p (slice_get p.methods n) ++ methods_
 -- Structs and methods have names of their own.
 pub record HasItemNames (p : PackageTree) : Type 0 where
   pub package_name : bytes_eq p.package_name (codes "base") ≡ false
-  pub structs : all_distinct (map (struct_called p) (struct_order p)) ≡ true
-  pub clean : list_all (λ s. is_clean (struct_called p s)) (struct_order p) ≡ true
+  pub structs : all_distinct (map (struct_called p) p.struct_order) ≡ true
+  pub clean : list_all (λ s. is_clean (struct_called p s)) p.struct_order ≡ true
   pub methods : all_distinct (methods_called p p.order) ≡ true
   pub owners : (n : ℕ) (m : MethodTree) → slice_get p.methods n ≡ Some m → (is_clean (struct_called p m.of) ≡ true) × (bytes_eq m.name (codes "initialize") ≡ false)
   pub few : length p.statuses < 2 ^ 64

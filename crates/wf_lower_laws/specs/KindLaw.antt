@@ -4,28 +4,28 @@ use Rattle.wf_num.specs.declared.c_arithmetic.CTy.{CTy}
 use Rattle.wf_ast.specs.TypedTree.{Path, arg, NumType, Arith, sat_plus, sat_minus, Question, reader_position, writer_position, NumTree, number, read, element, link, convert, length_of, asked, SliceTree, slice, array, cut, EndTree, absent, present, StatusTree, status, CondTree, truth, flag, compare, same_status, junction, negation, closed, has_category}
 use Rattle.wf_ast.specs.WellTyped.{Context, type_at, is_number, is_array, is_slice, is_flag, is_status, is_reader, is_writer, element_type, well_part, well_slice, well_status, well_cond}
 use Rattle.c_text.specs.CTree.{ExprTree, member}
-use Rattle.c_meaning.specs.CTypes.{Scope, ExprType, points_to, cell, byte, as_number, type_of}
+use Rattle.c_meaning.specs.CTypes.{CScope, ExprType, points_to, cell, byte, as_number, type_of}
 use Rattle.wf_exprs.specs.Names.{Names}
 use Rattle.wf_exprs.specs.Words.{num, uint_of}
 use Rattle.wf_exprs.specs.Exprs.{path_code, path_pair, io_code, place_code, end_code, bytes_code, saturated, status_constant, lowered, lowered_slice, lowered_status, lowered_cond}
 
 -- A number of C.
-pub record IsNum (s : Scope) (e : ExprTree) : Type 0 where
+pub record IsNum (s : CScope) (e : ExprTree) : Type 0 where
   pub type : ExprType
   pub is : type_of s e ≡ Some type
   pub ty : CTy
   pub counts : as_number type ≡ Some ty
 
 -- A pointer to numbers of so many bits.
-abbrev pub IsPointer : Scope → (bits : ℕ) → ExprTree → Type 0
+abbrev pub IsPointer : CScope → (bits : ℕ) → ExprTree → Type 0
 IsPointer s bits e = type_of s e ≡ Some (points_to (cell (uint_of bits)))
 
 -- A status: the literal 0, or a pointer to its text.
-abbrev pub IsText : Scope → ExprTree → Type 0
+abbrev pub IsText : CScope → ExprTree → Type 0
 IsText s e = (e ≡ num 0) ⊎ (type_of s e ≡ Some (points_to byte))
 
 -- A reader or writer, with its place and end, and the pointer to its bytes.
-pub record IsBuffer (s : Scope) (names : Names) (a : ℕ) : Type 0 where
+pub record IsBuffer (s : CScope) (names : Names) (a : ℕ) : Type 0 where
   pub place : IsNum s (place_code names a)
   pub end : IsNum s (end_code names a)
   pub position : IsNum s (member (io_code names a) (codes "pos"))
@@ -34,7 +34,7 @@ pub record IsBuffer (s : Scope) (names : Names) (a : ℕ) : Type 0 where
 
 -- The scope declares what a method's paths name, each as its type is in C. `has` tells which functions of saturating operators it
 -- has, and `knows` which statuses.
-pub record Declares (s : Scope) (c : Context) (names : Names) (has : (sum : Bool) → (bits : ℕ) → Bool) (knows : (status : ℕ) → Bool) : Type 0 where
+pub record Declares (s : CScope) (c : Context) (names : Names) (has : (sum : Bool) → (bits : ℕ) → Bool) (knows : (status : ℕ) → Bool) : Type 0 where
   pub numbers : (of : NumType) (path : Path) → is_number of (type_at c path) ≡ true → IsNum s (path_code names path)
   pub flags : (path : Path) → is_flag (type_at c path) ≡ true → IsNum s (path_code names path)
   pub statuses : (path : Path) → is_status (type_at c path) ≡ true → type_of s (path_code names path) ≡ Some (points_to byte)
@@ -90,7 +90,7 @@ cond_served has knows (closed at a) = true
 cond_served has knows (has_category at t category) = status_served knows t
 
 -- Then each expression that keeps the rules of types has its kind.
-pub record KeepKinds (s : Scope) (c : Context) (names : Names) (has : (sum : Bool) → (bits : ℕ) → Bool) (knows : (status : ℕ) → Bool) : Type 0 where
+pub record KeepKinds (s : CScope) (c : Context) (names : Names) (has : (sum : Bool) → (bits : ℕ) → Bool) (knows : (status : ℕ) → Bool) : Type 0 where
   pub numbers : (t : NumTree) → well_part c t ≡ true → num_served has t ≡ true → IsNum s (lowered names t).code
   pub slices : (t : SliceTree) → well_slice c t ≡ true → slice_served has t ≡ true → IsPointer s (element_type t).bits (lowered_slice names t).pointer × IsNum s (lowered_slice names t).length.code
   pub statuses : (t : StatusTree) → well_status c t ≡ true → status_served knows t ≡ true → IsText s (lowered_status names t)
@@ -98,4 +98,4 @@ pub record KeepKinds (s : Scope) (c : Context) (names : Names) (has : (sum : Boo
 
 abbrev pub ExpressionsKeepKinds : Type 0
 ExpressionsKeepKinds =
-    (s : Scope) (c : Context) (names : Names) (has : (sum : Bool) → (bits : ℕ) → Bool) (knows : (status : ℕ) → Bool) → Declares s c names has knows → KeepKinds s c names has knows
+    (s : CScope) (c : Context) (names : Names) (has : (sum : Bool) → (bits : ℕ) → Bool) (knows : (status : ℕ) → Bool) → Declares s c names has knows → KeepKinds s c names has knows

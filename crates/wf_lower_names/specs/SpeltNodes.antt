@@ -1,5 +1,5 @@
 -- The names of a typed package, and the texts of its statuses, as C spells names and strings.
-use Rattle.std.specs.Prelude.{◌≡◌, ◌<◌, ℕ, true, List, length}
+use Rattle.std.specs.Prelude.{◌≡◌, ◌<◌, true, length}
 use Rattle.std.specs.List.{AllByRecursion, list_all}
 use Rattle.wf_ast.specs.declared.typed_nodes.TypedNodes.{TypedNodes}
 use Rattle.wf_ast.specs.TypedInvariant.{IsTyped}

@@ -1,16 +1,15 @@
 -- Statements that write to targets that are alike are alike.
 use Rattle.std.proofs.Common.{◌≡◌, ℕ, true, Option, Some, None, refl, sym, ap, ◌∙◌}
 use Rattle.wf_base.specs.declared.widths.Width.{Width}
-use Rattle.wf_text.specs.declared.numbers.StructId.{StructId}
 use Rattle.wf_ast.specs.declared.types.Ty.TheVariants as types
 use Rattle.wf_ast.specs.TypedInvariant.{is_tree_of}
-use Rattle.wf_ast.specs.TypedTrees.{num_in, cond_in, status_in, slice_in}
+use Rattle.wf_ast.specs.TypedTrees.{num_in, cond_in}
 use Rattle.wf_ast.specs.TypedTree.{ValueTree, numeric, logical, state, elements, io, lost, Target, to_number, to_element, to_flag, to_status, to_slice, to_nothing}
 use Rattle.c_text.specs.CTree.{ExprTree, Code}
 use Rattle.c_text.specs.CTree as c
 use Rattle.wf_exprs.specs.Names.{Names}
-use Rattle.wf_exprs.specs.Exprs.{given, lowered_cond, lowered_status, lowered_slice}
-use Rattle.wf_lower_stmts.specs.Statements.{target_code, put_into, set_slice, set_value}
+use Rattle.wf_exprs.specs.Exprs.{given, lowered_cond}
+use Rattle.wf_lower_stmts.specs.Statements.{target_code, put_into, set_value}
 use Rattle.wf_lower_stmts.specs.BodyNodes.{AreAlike}
 
 abbrev put_by : Option ExprTree → (value : ExprTree) → (rest : Code) → Code
@@ -27,14 +26,6 @@ put_is names to_nothing v r = refl
 
 pub put_alike : (names : Names) (t u : Target) → AreAlike t u → (v : ExprTree) (r : Code) → put_into names t v r ≡ put_into names u v r
 put_alike names t u h v r = put_is names t v r ∙ ap (λ x. put_by x v r) (h.single names) ∙ sym (put_is names u v r)
-
-pub set_alike : (names : Names) (t u : Target) → AreAlike t u → (v : ValueTree) (r : Code) → set_value names t v r ≡ set_value names u v r
-set_alike names t u h (numeric x) r = put_alike names t u h (given names x) r
-set_alike names t u h (logical x) r = put_alike names t u h (lowered_cond names x) r
-set_alike names t u h (state x) r = put_alike names t u h (lowered_status names x) r
-set_alike names t u h (elements x) r = h.double names (lowered_slice names x) r
-set_alike names t u h (io at a) r = refl
-set_alike names t u h lost r = refl
 
 -- A value of each kind goes to a target.
 module _ (names : Names) (target : Target) (r : Code) where
@@ -53,51 +44,3 @@ module _ (names : Names) (target : Target) (r : Code) where
   set_flag (elements t) h = absurd (cc h)
   set_flag (io at a) h = absurd (cc h)
   set_flag lost h = absurd (cc h)
-
-  pub set_status : (v : ValueTree) → is_tree_of types.Status v ≡ true → set_value names target v r ≡ put_into names target (lowered_status names (status_in v)) r
-  set_status (numeric t) h = absurd (cc h)
-  set_status (logical t) h = absurd (cc h)
-  set_status (state t) h = refl
-  set_status (elements t) h = absurd (cc h)
-  set_status (io at a) h = absurd (cc h)
-  set_status lost h = absurd (cc h)
-
-  pub set_list : (v : ValueTree) (width : Width) → is_tree_of (types.Slice width) v ≡ true → set_value names target v r ≡ set_slice names target (lowered_slice names (slice_in v)) r
-  set_list (numeric t) width h = absurd (cc h)
-  set_list (logical t) width h = absurd (cc h)
-  set_list (state t) width h = absurd (cc h)
-  set_list (elements t) width h = refl
-  set_list (io at a) width h = absurd (cc h)
-  set_list lost width h = absurd (cc h)
-
-  pub set_array : (v : ValueTree) (width : Width) (lo hi : ℕ) (count : ℕ) → is_tree_of (types.Array width lo hi count) v ≡ true → set_value names target v r ≡ set_slice names target (lowered_slice names (slice_in v)) r
-  set_array (numeric t) width lo hi count h = absurd (cc h)
-  set_array (logical t) width lo hi count h = absurd (cc h)
-  set_array (state t) width lo hi count h = absurd (cc h)
-  set_array (elements t) width lo hi count h = refl
-  set_array (io at a) width lo hi count h = absurd (cc h)
-  set_array lost width lo hi count h = absurd (cc h)
-
-  pub set_reader : (v : ValueTree) → is_tree_of types.Reader v ≡ true → set_value names target v r ≡ r
-  set_reader (numeric t) h = absurd (cc h)
-  set_reader (logical t) h = absurd (cc h)
-  set_reader (state t) h = absurd (cc h)
-  set_reader (elements t) h = absurd (cc h)
-  set_reader (io at a) h = refl
-  set_reader lost h = absurd (cc h)
-
-  pub set_writer : (v : ValueTree) → is_tree_of types.Writer v ≡ true → set_value names target v r ≡ r
-  set_writer (numeric t) h = absurd (cc h)
-  set_writer (logical t) h = absurd (cc h)
-  set_writer (state t) h = absurd (cc h)
-  set_writer (elements t) h = absurd (cc h)
-  set_writer (io at a) h = refl
-  set_writer lost h = absurd (cc h)
-
-  pub set_part : (v : ValueTree) (s : StructId) → is_tree_of (types.Part s) v ≡ true → set_value names target v r ≡ r
-  set_part (numeric t) s h = absurd (cc h)
-  set_part (logical t) s h = absurd (cc h)
-  set_part (state t) s h = absurd (cc h)
-  set_part (elements t) s h = absurd (cc h)
-  set_part (io at a) s h = absurd (cc h)
-  set_part lost s h = absurd (cc h)

@@ -31,14 +31,6 @@ module _ (method : List ℕ) (rest : Code) where
 
 -- Nothing is left to be done after the end of a list.
 module _ (names : Names) (picks : ℕ → Bool) (rest : Code) where
-  pub places_none : (way : Way) (m k : ℕ) (xs : List Variable) → length xs ≤ k → places_code way names picks m (drop k xs) rest ≡ rest
-  places_none ways.Put m zero [] h = refl
-  places_none ways.Put m (suc k) [] h = refl
-  places_none ways.Get m zero [] h = refl
-  places_none ways.Get m (suc k) [] h = refl
-  places_none way m zero (x ∷ xs) h = absurd (omega (arith, h))
-  places_none way m (suc k) (x ∷ xs) h = places_none way m k xs (omega (arith, h))
-
   pub places_step : {a b : Nodes} {code it : ℕ} (way : Way) (xs : List Variable) (left i : ℕ) → suc i ≡ left → left ≤ length xs → HasCode a code (places_code way names picks left (drop left xs) rest)
       → HasCode b it (places_code way names picks i (take 1 (drop i xs)) (code_of a code)) → HasCode b it (places_code way names picks i (drop i xs) rest)
   places_step {a = a} {code = code} way xs left i e h so one =
@@ -47,18 +39,6 @@ module _ (names : Names) (picks : ℕ → Bool) (rest : Code) where
       record { there = one.there; is = one.is ∙ ap (places_code way names picks i (take 1 (drop i xs))) next.is ∙ sym (places_front names picks rest way i i xs (omega (arith, e, h))) }
 
 module _ (method : List ℕ) (rest : Code) where
-  pub save_none : (k : ℕ) (xs : List Variable) → length xs ≤ k → save_locals method (drop k xs) rest ≡ rest
-  save_none zero [] h = refl
-  save_none (suc k) [] h = refl
-  save_none zero (x ∷ xs) h = absurd (omega (arith, h))
-  save_none (suc k) (x ∷ xs) h = save_none k xs (omega (arith, h))
-
-  pub restore_none : (k : ℕ) (xs : List Variable) → length xs ≤ k → restore_locals method (drop k xs) rest ≡ rest
-  restore_none zero [] h = refl
-  restore_none (suc k) [] h = refl
-  restore_none zero (x ∷ xs) h = absurd (omega (arith, h))
-  restore_none (suc k) (x ∷ xs) h = restore_none k xs (omega (arith, h))
-
   pub save_step : {a b : Nodes} {code it : ℕ} (xs : List Variable) (left i : ℕ) → suc i ≡ left → left ≤ length xs → HasCode a code (save_locals method (drop left xs) rest)
       → HasCode b it (save_locals method (take 1 (drop i xs)) (code_of a code)) → HasCode b it (save_locals method (drop i xs) rest)
   save_step {a = a} {code = code} xs left i e h so one =

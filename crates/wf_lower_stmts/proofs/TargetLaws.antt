@@ -1,7 +1,5 @@
 -- What expressions are as targets.
-use Rattle.std.proofs.Common.{◌≡◌, ℕ, ◌<◌, Bool, true, false, ◌&&◌, List, [], ◌∷◌, map, Option, None, nat_lt, refl, sym, ap, ◌∙◌, subst, arith}
-use Rattle.std.specs.Prelude.{length}
-use Rattle.std.specs.List.{list_all}
+use Rattle.std.proofs.Common.{◌≡◌, ℕ, ◌<◌, Bool, true, false, List, [], ◌∷◌, map, Option, None, nat_lt, refl, sym, ap, ◌∙◌, subst, arith}
 use Rattle.std.proofs.lemmas.Bool.Decides.{nat_tests}
 use Rattle.wf_text.specs.declared.place.Place.{Place}
 use Rattle.wf_base.specs.declared.base_methods.BaseSig.{BaseSig}
@@ -11,14 +9,11 @@ use Rattle.wf_ast.specs.declared.operators.Op.{Op}
 use Rattle.wf_ast.specs.declared.typed_code.Expr.{Expr}
 use Rattle.wf_ast.specs.declared.typed_code.Expr.TheVariants as exprs
 use Rattle.wf_ast.specs.declared.types.Ty.{Ty}
-use Rattle.wf_ast.specs.declared.types.Ty.TheVariants as types
 use Rattle.wf_ast.specs.declared.typed_nodes.TypedNodes.{TypedNodes}
-use Rattle.wf_ast.specs.TypedTree.{Path, local, field, arg, Arith, Order, equal, differs, less, at_most, at_least, greater, NumTree, link, CondTree, junction, ValueTree, numeric, logical, state, elements, io, lost, Target, to_nothing}
-use Rattle.wf_ast.specs.TypedTrees.{Sort, arithmetic, ordering, joining, named, num_in, cond_in, num_chain, cond_chain, comparison, chain_of, answer_of, target_of}
-use Rattle.wf_ast.specs.TypedTrees.{type_of_node, tree_of, made, made_or_number, sort_of}
-use Rattle.wf_ast.specs.TypedInvariant.{chain_fits, is_list, is_numeric, node_fits}
-use Rattle.wf_ast.specs.NodeKinds.{is_number_at, is_slice_at}
-use Rattle.wf_ast.proofs.Arena.{both_true}
+use Rattle.wf_ast.specs.TypedTree.{Arith, Order, equal, differs, less, at_most, at_least, greater, NumTree, link, CondTree, junction, ValueTree, numeric, logical, state, elements, io, lost, Target, to_nothing}
+use Rattle.wf_ast.specs.TypedTrees.{OperatorKind, arithmetic, ordering, joining, num_in, cond_in, num_chain, cond_chain, comparison, chain_of, answer_of, target_of}
+use Rattle.wf_ast.specs.TypedTrees.{tree_of, made, made_or_number, operator_kind}
+use Rattle.wf_ast.specs.TypedInvariant.{chain_fits, node_fits}
 use Rattle.wf_lower_stmts.specs.BodyNodes.{AreAlike}
 
 lt_more : (k m n : ℕ) → m < n → nat_lt k m ≡ true → nat_lt k n ≡ true
@@ -29,16 +24,6 @@ same t = record { single = λ names. refl; wanted = refl; double = λ names it r
 
 pub none_alike : (v : ValueTree) → target_of v ≡ to_nothing → AreAlike (target_of v) to_nothing
 none_alike v h = rw h (same to_nothing)
-
-pub reader_none : (at : Place) (p : Path) → target_of (named at types.Reader p) ≡ to_nothing
-reader_none at (local n) = refl
-reader_none at (field n) = refl
-reader_none at (arg n) = refl
-
-pub writer_none : (at : Place) (p : Path) → target_of (named at types.Writer p) ≡ to_nothing
-writer_none at (local n) = refl
-writer_none at (field n) = refl
-writer_none at (arg n) = refl
 
 linked_none : (at at2 sign : Place) (op : Arith) (bits : ℕ) (a b : NumTree) (joined : Bool) (ts : List ValueTree) (signs : List Place)
     → target_of (numeric (num_chain at op bits true (link at2 sign op bits joined a b) ts signs)) ≡ to_nothing
@@ -69,7 +54,7 @@ compared_none at sign at_least a b = refl
 compared_none at sign greater a b = refl
 
 -- A chain of two or more is no target.
-pub chain_none : (at : Place) (signs : List Place) (ty : Ty) (sort : Sort) (t u : ValueTree) (ts : List ValueTree) → target_of (chain_of at signs ty sort (t ∷ u ∷ ts)) ≡ to_nothing
+pub chain_none : (at : Place) (signs : List Place) (ty : Ty) (sort : OperatorKind) (t u : ValueTree) (ts : List ValueTree) → target_of (chain_of at signs ty sort (t ∷ u ∷ ts)) ≡ to_nothing
 chain_none at [] ty (arithmetic op) t u ts = linked_none at at at op _ (num_in t) (num_in u) false ts []
 chain_none at (s ∷ signs) ty (arithmetic op) t u ts = linked_none at at s op _ (num_in t) (num_in u) false ts signs
 chain_none at signs ty (joining both) t u ts = joined_none at at both false (cond_in t) (cond_in u) ts
@@ -97,7 +82,7 @@ answer_none at sigs.IsNote t = refl
 answer_none at sigs.IsSuspension t = refl
 answer_none at sigs.IsError t = refl
 
-pub chain_target : (nodes : TypedNodes) (look : ExprId → ValueTree) (at : Place) (signs : List Place) (ty : Ty) (sort : Sort) (es : List ExprId) → chain_fits nodes sort es ty ≡ true
+pub chain_target : (nodes : TypedNodes) (look : ExprId → ValueTree) (at : Place) (signs : List Place) (ty : Ty) (sort : OperatorKind) (es : List ExprId) → chain_fits nodes sort es ty ≡ true
     → target_of (chain_of at signs ty sort (map look es)) ≡ to_nothing
 chain_target nodes look at signs ty (arithmetic op) [] h = absurd (cc h)
 chain_target nodes look at signs ty (arithmetic op) (e ∷ []) h = absurd (cc h)
@@ -106,17 +91,6 @@ chain_target nodes look at signs ty (joining both) (e ∷ []) h = absurd (cc h)
 chain_target nodes look at signs ty (ordering op) [] h = absurd (cc h)
 chain_target nodes look at signs ty (ordering op) (e ∷ []) h = absurd (cc h)
 chain_target nodes look at signs ty sort (e ∷ f ∷ es) h = chain_none at signs ty sort (look e) (look f) (map look es)
-
--- The parts of an element are there, a slice and a number.
-pub element_there : (nodes : TypedNodes) (ty : Ty) (e base at : ExprId) → e.0 < length nodes.exprs
-    → list_all (λ part. nat_lt part.0 e.0) (base ∷ at ∷ []) ≡ true → (is_numeric ty && (is_list (type_of_node nodes base.0) && is_numeric (type_of_node nodes at.0))) ≡ true
-    → (is_slice_at nodes base && is_number_at nodes at) ≡ true
-element_there nodes ty e base at known below kinds =
-    let p = both_true (nat_lt base.0 e.0) (list_all (λ part. nat_lt part.0 e.0) (at ∷ [])) below in
-    let q = both_true (nat_lt at.0 e.0) true p.1 in
-    let k = both_true (is_numeric ty) (is_list (type_of_node nodes base.0) && is_numeric (type_of_node nodes at.0)) kinds in
-    let l = both_true (is_list (type_of_node nodes base.0)) (is_numeric (type_of_node nodes at.0)) k.1 in
-    rw (lt_more base.0 e.0 (length nodes.exprs) known p.0, l.0, lt_more at.0 e.0 (length nodes.exprs) known q.0, l.1) refl
 
 -- A target by its node.
 pub alike_made : (t nodes : TypedNodes) (e : ExprId) (look : ExprId → ValueTree) (at : Place) (signs : List Place) (ty : Ty) (n : Option ℕ) (x y : Expr) (r : Target)
@@ -131,5 +105,5 @@ pub chain_alike : (t nodes : TypedNodes) (e : ExprId) (look : ExprId → ValueTr
 chain_alike t nodes e look at signs ty n x op parts same is none xy fits =
     let P : Option ℕ → Type 0 = λ k. node_fits t ty k x ≡ true in
     let Q : Expr → Type 0 = λ z. node_fits t ty None z ≡ true in
-    let whole : chain_fits t (sort_of op) parts ty ≡ true = subst Q xy (subst P (sym none) fits) in
-    alike_made t nodes e look at signs ty n x (exprs.Chain op parts) to_nothing same is none xy (none_alike (chain_of at signs ty (sort_of op) (map look parts)) (chain_target t look at signs ty (sort_of op) parts whole))
+    let whole : chain_fits t (operator_kind op) parts ty ≡ true = subst Q xy (subst P (sym none) fits) in
+    alike_made t nodes e look at signs ty n x (exprs.Chain op parts) to_nothing same is none xy (none_alike (chain_of at signs ty (operator_kind op) (map look parts)) (chain_target t look at signs ty (operator_kind op) parts whole))

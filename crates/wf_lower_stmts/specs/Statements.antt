@@ -14,7 +14,7 @@ use Rattle.wf_meaning.specs.Entry.{has_kind, short_read, short_write, cannot_sus
 use Rattle.wf_meaning.specs.Remaining.{is_point}
 use Rattle.c_text.specs.declared.kinds.COp.TheVariants.{Add, Sub, Mul, Shl, Lt, Gt, Ge, Eq, Both}
 use Rattle.c_text.specs.declared.kinds.CUnary.TheVariants.{Address}
-use Rattle.c_text.specs.CTree.{ExprTree, variable, element, unary, cast, Code, finish, jump, leave}
+use Rattle.c_text.specs.CTree.{ExprTree, variable, element, unary, cast, Code, finish, jump}
 use Rattle.c_text.specs.CTree as c
 use Rattle.wf_exprs.specs.Names.{Names, local_pointer, local_length, field_name, body_name, entry_name, again_label, behind_label}
 use Rattle.wf_exprs.specs.Words.{num, uint_of, two, self, of_self, args}

@@ -15,14 +15,14 @@ use std::alloc::Global;
 use std::marker::Model;
 use wf_ast::{Block, Method, StmtId, Typed, Var};
 use wf_base::Mark;
-use wf_exprs::Scope;
+use wf_exprs::BodyNames;
 use wf_points::table::Points;
 use wf_text::MethodId;
 
 /// What lowering knows of a method.
 #[derive(Drop)]
 pub struct Body<'a> {
-    scope: Scope<'a>,
+    scope: BodyNames<'a>,
     t: &'a Typed,
     points: &'a Points,
     method: &'a Method,
@@ -56,7 +56,7 @@ impl<'a> Body<'a> {
         let of = t.structure(method.of);
         let body = t.body(m);
         Body {
-            scope: Scope::new(
+            scope: BodyNames::new(
                 alloc,
                 t,
                 of.fields.as_slice(),
@@ -78,7 +78,7 @@ impl<'a> Body<'a> {
     }
 
     /// The names of the method.
-    pub fn scope(&self) -> &Scope<'a>
+    pub fn scope(&self) -> &BodyNames<'a>
         ensures { result.now ≡ record { nodes = self.now.nodes; names = (form_in self.now).names } }
     {
         &self.scope

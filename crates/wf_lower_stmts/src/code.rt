@@ -1,6 +1,6 @@
 // Statements of C, each before the code that follows it.
 
-ghost use Rattle.std.specs.Prelude.{◌≡◌, ◌<◌, ◌^◌, length, Some, IfOk, IfSome, option_map};
+ghost use Rattle.std.specs.Prelude.{◌<◌, ◌^◌, length, IfOk, IfSome};
 ghost use Rattle.c_text.specs.CFits.{HasCall, HasTarget};
 ghost use Rattle.c_text.specs.CNodes.{args_in, bytes_at, code_of, expr_of, value_in};
 ghost use Rattle.c_text.specs.CTree.{finish as finish_code, empty, assign as assign_code, call as call_code, jump as jump_code, leave as leave_code, case_label, name_label};

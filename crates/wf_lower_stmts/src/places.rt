@@ -18,7 +18,7 @@ use crate::body::Body;
 use crate::code::assign;
 use c_text::{CExprId, CStmtId, Unit};
 use wf_ast::{ExprId, Ty, Typed, io_arg};
-use wf_exprs::Scope;
+use wf_exprs::BodyNames;
 use wf_exprs::nodes::choice;
 use wf_text::NoMemory;
 
@@ -116,7 +116,7 @@ fn is_writer(ty: Ty) -> bool
 
 /// The place in a buffer.
 #[tactic(auto, unfolding(c_text::specs::CSpelling::is_reserved))]
-pub fn place_in(scope: &Scope, u: &mut Unit, n: u32, ty: Ty) -> Result<CExprId, NoMemory>
+pub fn place_in(scope: &BodyNames, u: &mut Unit, n: u32, ty: Ty) -> Result<CExprId, NoMemory>
     ensures grows { Grows u.old u.new }
     ensures made { IfOk result (λ it. HasExpr u.new it.0 (place_in_code (io_code scope.now.names n) ty)) }
 {
@@ -129,7 +129,7 @@ pub fn place_in(scope: &Scope, u: &mut Unit, n: u32, ty: Ty) -> Result<CExprId, 
 
 // The end of a writer's room: its place once it is closed.
 #[tactic(auto, unfolding(c_text::specs::CSpelling::is_reserved))]
-fn end_of_room(scope: &Scope, u: &mut Unit, n: u32) -> Result<CExprId, NoMemory>
+fn end_of_room(scope: &BodyNames, u: &mut Unit, n: u32) -> Result<CExprId, NoMemory>
     ensures grows { Grows u.old u.new }
     ensures made { IfOk result (λ it. HasExpr u.new it.0 (end_in (io_code scope.now.names n) types.Writer)) }
 {
@@ -141,7 +141,7 @@ fn end_of_room(scope: &Scope, u: &mut Unit, n: u32) -> Result<CExprId, NoMemory>
 
 /// The end of a reader's bytes, or of a writer's room.
 #[tactic(auto, unfolding(c_text::specs::CSpelling::is_reserved))]
-pub fn end_of(scope: &Scope, u: &mut Unit, n: u32, ty: Ty) -> Result<CExprId, NoMemory>
+pub fn end_of(scope: &BodyNames, u: &mut Unit, n: u32, ty: Ty) -> Result<CExprId, NoMemory>
     ensures grows { Grows u.old u.new }
     ensures made { IfOk result (λ it. HasExpr u.new it.0 (end_in (io_code scope.now.names n) ty)) }
 {

@@ -1,6 +1,6 @@
 // The names in C of what a package declares, and of what a coroutine keeps.
 
-ghost use Rattle.std.specs.Prelude.{◌≡◌, ◌<◌, ◌++◌, true, length, codes, option_map, slice_get, unwrap_or, IfOk};
+ghost use Rattle.std.specs.Prelude.{◌≡◌, ◌<◌, ◌++◌, true, length, IfOk};
 ghost use Rattle.std.specs.List.{list_all};
 ghost use Rattle.wf_ast.specs.TypedPackage.{package_of};
 ghost use Rattle.c_text.specs.CSpelling.{is_word_byte};

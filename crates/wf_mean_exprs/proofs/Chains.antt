@@ -10,7 +10,7 @@ use Rattle.wf_ast.specs.declared.numbers.ExprId.{ExprId}
 use Rattle.wf_ast.specs.declared.types.Ty.{Ty}
 use Rattle.wf_ast.specs.declared.typed_nodes.TypedNodes.{TypedNodes}
 use Rattle.wf_ast.specs.TypedTree.{Arith, NumTree, ValueTree, link}
-use Rattle.wf_ast.specs.TypedTrees.{Sort, arithmetic, ordering, joining, num_in, num_chain, chain_of, num_type, tree_of, type_of_node}
+use Rattle.wf_ast.specs.TypedTrees.{OperatorKind, arithmetic, ordering, joining, num_in, num_chain, chain_of, num_type, tree_of, type_of_node}
 use Rattle.wf_ast.specs.TypedInvariant.{is_expr, is_numeric, chain_fits}
 use Rattle.wf_ast.specs.Value.{State, applied, value}
 use Rattle.wf_ast.specs.NodeKinds.{node_number, is_number_at}
@@ -21,12 +21,12 @@ use Rattle.wf_ast.proofs.TypeKinds.{number_no_condition}
 use Rattle.wf_mean_exprs.specs.Operands.{chain_value}
 
 -- A chain that gives a number is arithmetic, and its operands are numbers that stand before it.
-pub record IsOfNumbers (nodes : TypedNodes) (sort : Sort) (es : List ExprId) : Type 0 where
+pub record IsOfNumbers (nodes : TypedNodes) (sort : OperatorKind) (es : List ExprId) : Type 0 where
   pub arithmetic_sort : is_arithmetic sort ≡ true
   pub numbers : list_all (is_number_at nodes) es ≡ true
   pub some : 0 < length es
 
-pub of_numbers : (nodes : TypedNodes) (n : ℕ) (ty : Ty) (sort : Sort) (es : List ExprId) → n < length nodes.exprs → is_numeric ty ≡ true → chain_fits nodes sort es ty ≡ true
+pub of_numbers : (nodes : TypedNodes) (n : ℕ) (ty : Ty) (sort : OperatorKind) (es : List ExprId) → n < length nodes.exprs → is_numeric ty ≡ true → chain_fits nodes sort es ty ≡ true
     → list_all (λ p. nat_lt p.0 n) es ≡ true → IsOfNumbers nodes sort es
 of_numbers nodes n ty (arithmetic op) es l h f b =
     let operands = numeric_operands nodes n ty op es l f b in
@@ -46,7 +46,7 @@ module _ (s : State) where
   map_twice nodes (e ∷ es) = ap (λ ts. node_number nodes e ∷ ts) (map_twice nodes es)
 
   -- The chain begins with the value of its first operand.
-  pub chain_begins : (nodes : TypedNodes) (at : Place) (signs : List Place) (ty : Ty) (sort : Sort) (es : List ExprId) (d : ExprId) → is_arithmetic sort ≡ true → 0 < length es
+  pub chain_begins : (nodes : TypedNodes) (at : Place) (signs : List Place) (ty : Ty) (sort : OperatorKind) (es : List ExprId) (d : ExprId) → is_arithmetic sort ≡ true → 0 < length es
       → chain_value s (arith_in sort) (num_type ty).bits (value s (node_number nodes (get_or es 0 d))) (map (node_number nodes) (drop 1 es))
       ≡ value s (num_in (chain_of at signs ty sort (map (tree_of nodes) es)))
   chain_begins nodes at signs ty (arithmetic op) [] d a l = absurd (omega (arith, l))

@@ -6,12 +6,12 @@ use Rattle.wf_base.specs.declared.base_methods.Gives.TheVariants as answers
 use Rattle.wf_base.specs.declared.marks.Mark.TheVariants.{Pure}
 use Rattle.wf_base.specs.BaseTable.{row_of}
 use Rattle.wf_ast.specs.TypedTree.{Order, CondTree}
-use Rattle.wf_ast.specs.TypedTrees.{Sort, joining}
+use Rattle.wf_ast.specs.TypedTrees.{OperatorKind, joining}
 use Rattle.wf_ast.specs.WellTyped.{same_mark}
 use Rattle.wf_ast.specs.Value.{State, truth_of, compares, same_truth}
 
 -- An operator that joins conditions is `and`.
-abbrev pub joins_both : Sort → Bool
+abbrev pub joins_both : OperatorKind → Bool
 joins_both (joining both) = both
 joins_both sort = false
 

@@ -3,7 +3,7 @@
 ghost use Rattle.std.specs.Prelude.{◌≡◌, ◌≤◌, ◌<◌, ◌^◌, ◌*◌, ◌+◌, ◌-◌, ◌%◌, min, IsTrue};
 ghost use Rattle.wf_base.specs.BaseTable.{bits_of};
 ghost use Rattle.wf_ast.specs.TypedTree.{divided, remainder as remains, shift_left as shifts_left, shift_right as shifts_right, mod_shift_left as shifts_within};
-ghost use Rattle.wf_ast.specs.TypedTrees.{sort_of};
+ghost use Rattle.wf_ast.specs.TypedTrees.{operator_kind};
 ghost use Rattle.wf_ast.specs.Value.{applied, fitted, compares};
 ghost use Rattle.wf_ast.specs.OperatorForms.{arith_in, is_arithmetic, order_in, is_ordering};
 
@@ -12,8 +12,8 @@ use wf_base::Width;
 
 /// What an operator makes of two numbers; None where it is stuck.
 pub(crate) fn apply(op: Op, width: Width, m: u64, n: u64) -> Option<u64>
-    requires { IsTrue (is_arithmetic (sort_of op)) }
-    ensures { result ≡ applied (arith_in (sort_of op)) (bits_of width) m n }
+    requires { IsTrue (is_arithmetic (operator_kind op)) }
+    ensures { result ≡ applied (arith_in (operator_kind op)) (bits_of width) m n }
 {
     match op {
         Op::Add => fit(width, m as u128 + n as u128),
@@ -45,8 +45,8 @@ pub(crate) fn apply(op: Op, width: Width, m: u64, n: u64) -> Option<u64>
 
 /// Whether two numbers compare so.
 pub(crate) fn compare(op: Op, m: u64, n: u64) -> bool
-    requires { IsTrue (is_ordering (sort_of op)) }
-    ensures { result ≡ compares (order_in (sort_of op)) m n }
+    requires { IsTrue (is_ordering (operator_kind op)) }
+    ensures { result ≡ compares (order_in (operator_kind op)) m n }
 {
     match op {
         Op::Less => m < n,

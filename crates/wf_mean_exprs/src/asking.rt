@@ -2,8 +2,8 @@
 
 ghost use Rattle.std.specs.Prelude.{◌≡◌, ◌≤◌, ◌<◌, ◌^◌, nat_le, length, IsTrue, option_map, option_and_then, Some};
 ghost use Rattle.wf_base.specs.BaseOps.{reader_length, taken, little_endian};
-ghost use Rattle.wf_ast.specs.TypedTree.{numeric, asked, peek, arg};
-ghost use Rattle.wf_ast.specs.TypedTrees.{named, io_in, place_of_node, tree_of, type_of_node};
+ghost use Rattle.wf_ast.specs.TypedTree.{numeric, asked, peek};
+ghost use Rattle.wf_ast.specs.TypedTrees.{io_in, place_of_node, tree_of, type_of_node};
 ghost use Rattle.wf_ast.specs.TypedInvariant.{is_expr, is_io};
 ghost use Rattle.wf_ast.specs.Value.{value, told, only_if};
 ghost use Rattle.wf_ast.specs.NodeKinds.{node_number};

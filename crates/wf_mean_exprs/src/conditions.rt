@@ -1,12 +1,11 @@
 // The values of conditions and of statuses in the source's machine. The recursion goes as deep as conditions stand inside one
 // another; the operands of a chain stand side by side.
 
-ghost use Rattle.std.specs.Prelude.{◌≡◌, ◌<◌, ◌∷◌, [], nat_lt, length, map, not, IsTrue, option_map, option_and_then};
+ghost use Rattle.std.specs.Prelude.{◌≡◌, ◌<◌, ◌∷◌, [], nat_lt, length, map, not, IsTrue, option_map};
 ghost use Rattle.std.specs.List.{list_all};
-ghost use Rattle.wf_text.specs.StatusText.{category_of};
 ghost use Rattle.wf_base.specs.BaseTable.{row_of};
 ghost use Rattle.wf_ast.specs.TypedTree.{logical, closed, has_category, negation, local, field, arg};
-ghost use Rattle.wf_ast.specs.TypedTrees.{named, answer_of, chain_of, io_in, status_in, place_of_node, signs_of_node, sort_of, tree_of, type_of_node};
+ghost use Rattle.wf_ast.specs.TypedTrees.{named, answer_of, chain_of, io_in, place_of_node, signs_of_node, operator_kind, tree_of, type_of_node};
 ghost use Rattle.wf_ast.specs.TypedInvariant.{chain_fits, compares_kinds, has_kind, is_expr, is_io, is_state, is_tree_of};
 ghost use Rattle.wf_ast.specs.Value.{truth_of, status_value, same_category, same_truth};
 ghost use Rattle.wf_ast.specs.OperatorForms.{order_in, is_ordering, is_joining, is_equal};
@@ -91,8 +90,8 @@ fn opposite(b: Option<bool>) -> Option<bool>
 #[cycle(deciding)]
 fn truth_of_chain(scene: &Scene, e: ExprId, op: Op, parts: &[ExprId]) -> Option<bool>
     requires node { IsTrue (is_condition_at scene.now.package.now e) }
-    requires tree { tree_of scene.now.package.now e ≡ chain_of (place_of_node scene.now.package.now e.0) (signs_of_node scene.now.package.now e.0) (type_of_node scene.now.package.now e.0) (sort_of op) (map (tree_of scene.now.package.now) parts.now) }
-    requires fits { IsTrue (chain_fits scene.now.package.now (sort_of op) parts.now (type_of_node scene.now.package.now e.0)) }
+    requires tree { tree_of scene.now.package.now e ≡ chain_of (place_of_node scene.now.package.now e.0) (signs_of_node scene.now.package.now e.0) (type_of_node scene.now.package.now e.0) (operator_kind op) (map (tree_of scene.now.package.now) parts.now) }
+    requires fits { IsTrue (chain_fits scene.now.package.now (operator_kind op) parts.now (type_of_node scene.now.package.now e.0)) }
     requires below { IsTrue (list_all (λ p. nat_lt p.0 e.0) parts.now) }
     requires trees { IsTrue (list_all (λ p. is_tree_of (type_of_node scene.now.package.now p.0) (tree_of scene.now.package.now p)) parts.now) }
     ensures { result ≡ truth_of (seen_from scene.now) (node_cond scene.now.package.now e) }
@@ -105,7 +104,7 @@ fn truth_of_chain(scene: &Scene, e: ExprId, op: Op, parts: &[ExprId]) -> Option<
 }
 
 fn joins(op: Op) -> bool
-    ensures { result ≡ is_joining (sort_of op) }
+    ensures { result ≡ is_joining (operator_kind op) }
 {
     match op {
         Op::And | Op::Or => true,
@@ -121,8 +120,8 @@ fn joins(op: Op) -> bool
 // `and` and `or`, from the left.
 #[cycle(deciding)]
 fn truth_of_junction(scene: &Scene, e: ExprId, op: Op, parts: &[ExprId]) -> Option<bool>
-    requires tree { tree_of scene.now.package.now e ≡ chain_of (place_of_node scene.now.package.now e.0) (signs_of_node scene.now.package.now e.0) (type_of_node scene.now.package.now e.0) (sort_of op) (map (tree_of scene.now.package.now) parts.now) }
-    requires joining { IsTrue (is_joining (sort_of op)) }
+    requires tree { tree_of scene.now.package.now e ≡ chain_of (place_of_node scene.now.package.now e.0) (signs_of_node scene.now.package.now e.0) (type_of_node scene.now.package.now e.0) (operator_kind op) (map (tree_of scene.now.package.now) parts.now) }
+    requires joining { IsTrue (is_joining (operator_kind op)) }
     requires below { IsTrue (list_all (λ p. nat_lt p.0 e.0) parts.now) }
     requires conditions { IsTrue (list_all (is_condition_at scene.now.package.now) parts.now) }
     requires some { 0 < length parts.now }
@@ -136,8 +135,8 @@ fn truth_of_junction(scene: &Scene, e: ExprId, op: Op, parts: &[ExprId]) -> Opti
 }
 
 fn joined(op: Op, so_far: Option<bool>, next: Option<bool>) -> Option<bool>
-    requires { IsTrue (is_joining (sort_of op)) }
-    ensures { result ≡ junction_of (joins_both (sort_of op)) so_far next }
+    requires { IsTrue (is_joining (operator_kind op)) }
+    ensures { result ≡ junction_of (joins_both (operator_kind op)) so_far next }
 {
     match (so_far, next) {
         (Some(p), Some(q)) => Some(if matches!(op, Op::And) {
@@ -153,9 +152,9 @@ fn joined(op: Op, so_far: Option<bool>, next: Option<bool>) -> Option<bool>
 
 // A comparison of two numbers, or of two statuses.
 fn truth_of_comparison(scene: &Scene, e: ExprId, op: Op, parts: &[ExprId]) -> Option<bool>
-    requires tree { tree_of scene.now.package.now e ≡ chain_of (place_of_node scene.now.package.now e.0) (signs_of_node scene.now.package.now e.0) (type_of_node scene.now.package.now e.0) (sort_of op) (map (tree_of scene.now.package.now) parts.now) }
-    requires ordering { IsTrue (is_ordering (sort_of op)) }
-    requires fits { IsTrue (chain_fits scene.now.package.now (sort_of op) parts.now (type_of_node scene.now.package.now e.0)) }
+    requires tree { tree_of scene.now.package.now e ≡ chain_of (place_of_node scene.now.package.now e.0) (signs_of_node scene.now.package.now e.0) (type_of_node scene.now.package.now e.0) (operator_kind op) (map (tree_of scene.now.package.now) parts.now) }
+    requires ordering { IsTrue (is_ordering (operator_kind op)) }
+    requires fits { IsTrue (chain_fits scene.now.package.now (operator_kind op) parts.now (type_of_node scene.now.package.now e.0)) }
     requires there { IsTrue (list_all (is_expr scene.now.package.now) parts.now) }
     requires trees { IsTrue (list_all (λ p. is_tree_of (type_of_node scene.now.package.now p.0) (tree_of scene.now.package.now p)) parts.now) }
     ensures { result ≡ truth_of (seen_from scene.now) (node_cond scene.now.package.now e) }
@@ -167,9 +166,9 @@ fn truth_of_comparison(scene: &Scene, e: ExprId, op: Op, parts: &[ExprId]) -> Op
 }
 
 fn truth_of_two(scene: &Scene, e: ExprId, op: Op, a: ExprId, b: ExprId) -> Option<bool>
-    requires tree { tree_of scene.now.package.now e ≡ chain_of (place_of_node scene.now.package.now e.0) (signs_of_node scene.now.package.now e.0) (type_of_node scene.now.package.now e.0) (sort_of op) (tree_of scene.now.package.now a ∷ tree_of scene.now.package.now b ∷ []) }
-    requires ordering { IsTrue (is_ordering (sort_of op)) }
-    requires kinds { IsTrue (compares_kinds (sort_of op) (type_of_node scene.now.package.now a.0) (type_of_node scene.now.package.now b.0)) }
+    requires tree { tree_of scene.now.package.now e ≡ chain_of (place_of_node scene.now.package.now e.0) (signs_of_node scene.now.package.now e.0) (type_of_node scene.now.package.now e.0) (operator_kind op) (tree_of scene.now.package.now a ∷ tree_of scene.now.package.now b ∷ []) }
+    requires ordering { IsTrue (is_ordering (operator_kind op)) }
+    requires kinds { IsTrue (compares_kinds (operator_kind op) (type_of_node scene.now.package.now a.0) (type_of_node scene.now.package.now b.0)) }
     requires left { IsTrue (is_expr scene.now.package.now a) }
     requires right { IsTrue (is_expr scene.now.package.now b) }
     requires left_tree { IsTrue (is_tree_of (type_of_node scene.now.package.now a.0) (tree_of scene.now.package.now a)) }
@@ -194,8 +193,8 @@ fn has_status(scene: &Scene, a: ExprId) -> bool
 }
 
 fn compared(op: Op, m: Option<u64>, n: Option<u64>) -> Option<bool>
-    requires { IsTrue (is_ordering (sort_of op)) }
-    ensures { result ≡ numbers_compare (order_in (sort_of op)) m n }
+    requires { IsTrue (is_ordering (operator_kind op)) }
+    ensures { result ≡ numbers_compare (order_in (operator_kind op)) m n }
 {
     match (m, n) {
         (Some(m), Some(n)) => Some(compare(op, m, n)),
@@ -206,8 +205,8 @@ fn compared(op: Op, m: Option<u64>, n: Option<u64>) -> Option<bool>
 }
 
 fn same_statuses(op: Op, m: Option<u32>, n: Option<u32>) -> Option<bool>
-    requires { IsTrue (is_ordering (sort_of op)) }
-    ensures { result ≡ statuses_same (is_equal (order_in (sort_of op))) m n }
+    requires { IsTrue (is_ordering (operator_kind op)) }
+    ensures { result ≡ statuses_same (is_equal (order_in (operator_kind op))) m n }
 {
     match (m, n) {
         (Some(m), Some(n)) => Some(agree(asks_same(op), m == n)),
@@ -224,8 +223,8 @@ fn agree(a: bool, b: bool) -> bool
 }
 
 fn asks_same(op: Op) -> bool
-    requires { IsTrue (is_ordering (sort_of op)) }
-    ensures { result ≡ is_equal (order_in (sort_of op)) }
+    requires { IsTrue (is_ordering (operator_kind op)) }
+    ensures { result ≡ is_equal (order_in (operator_kind op)) }
 {
     match op {
         Op::Same => true,

@@ -1,6 +1,6 @@
 // What a body does to its locals, and what is kept of them between calls.
 
-ghost use Rattle.std.specs.Prelude.{◌≡◌, ◌<◌, map, length};
+ghost use Rattle.std.specs.Prelude.{◌≡◌, map, length};
 ghost use Rattle.wf_meaning.specs.World.{kept_local as kept_value, kept_locals};
 ghost use Rattle.wf_meaning.specs.SourceCall.{fresh_local as fresh_value};
 ghost use Rattle.wf_mean_exprs.specs.MachineState.{slot_seen};

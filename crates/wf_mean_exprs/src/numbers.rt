@@ -5,7 +5,7 @@ ghost use Rattle.std.specs.Prelude.{◌≡◌, ◌<◌, nat_lt, length, map, IsT
 ghost use Rattle.std.specs.List.{list_all};
 ghost use Rattle.wf_base.specs.BaseTable.{bits_of, row_of};
 ghost use Rattle.wf_ast.specs.TypedTree.{numeric, element, convert, length_of, cut, local, field, arg};
-ghost use Rattle.wf_ast.specs.TypedTrees.{named, answer_of, chain_of, end_in, first_sign, num_type, place_of_node, signs_of_node, sort_of, tree_of, type_of_node};
+ghost use Rattle.wf_ast.specs.TypedTrees.{named, answer_of, chain_of, end_in, first_sign, num_type, place_of_node, signs_of_node, operator_kind, tree_of, type_of_node};
 ghost use Rattle.wf_ast.specs.TypedInvariant.{has_kind, is_expr};
 ghost use Rattle.wf_ast.specs.Value.{value, span_of, end_value, element_of, part_of, applied, fitted};
 ghost use Rattle.wf_ast.specs.NodeKinds.{is_number_at, is_slice_at, node_number, node_slice, end_fits, gives_number};
@@ -96,9 +96,9 @@ fn element_at(scene: &Scene, span: Option<SliceSpan>, k: Option<u64>) -> Option<
 #[cycle(valuing)]
 fn number_of_chain(scene: &Scene, e: ExprId, op: Op, parts: &[ExprId]) -> Option<u64>
     requires node { IsTrue (is_number_at scene.now.package.now e) }
-    requires tree { tree_of scene.now.package.now e ≡ chain_of (place_of_node scene.now.package.now e.0) (signs_of_node scene.now.package.now e.0) (type_of_node scene.now.package.now e.0) (sort_of op) (map (tree_of scene.now.package.now) parts.now) }
+    requires tree { tree_of scene.now.package.now e ≡ chain_of (place_of_node scene.now.package.now e.0) (signs_of_node scene.now.package.now e.0) (type_of_node scene.now.package.now e.0) (operator_kind op) (map (tree_of scene.now.package.now) parts.now) }
     requires below { IsTrue (list_all (λ p. nat_lt p.0 e.0) parts.now) }
-    requires arithmetic { IsTrue (is_arithmetic (sort_of op)) }
+    requires arithmetic { IsTrue (is_arithmetic (operator_kind op)) }
     requires numbers { IsTrue (list_all (is_number_at scene.now.package.now) parts.now) }
     requires some { 0 < length parts.now }
     ensures { result ≡ value (seen_from scene.now) (node_number scene.now.package.now e) }
@@ -112,8 +112,8 @@ fn number_of_chain(scene: &Scene, e: ExprId, op: Op, parts: &[ExprId]) -> Option
 }
 
 fn joined(op: Op, width: Width, so_far: Option<u64>, next: Option<u64>) -> Option<u64>
-    requires { IsTrue (is_arithmetic (sort_of op)) }
-    ensures { result ≡ option_and_then (λ m. option_and_then (applied (arith_in (sort_of op)) (bits_of width) m) next) so_far }
+    requires { IsTrue (is_arithmetic (operator_kind op)) }
+    ensures { result ≡ option_and_then (λ m. option_and_then (applied (arith_in (operator_kind op)) (bits_of width) m) next) so_far }
 {
     match (so_far, next) {
         (Some(m), Some(n)) => apply(op, width, m, n),

@@ -29,7 +29,7 @@ nodes-seen named typed well grammar is kept none =
     accepted-seen (local_at typed) (package_of typed) (nodes-accepted named typed well grammar is kept none) (subst P (sym is.tree) (ok-first (named_package named)))
 
 pub read-seen : ReadPackagesAreSeen
-read-seen name files read parsed names order ordered types bounds =
-    let p : NamedPackageTree = resolved_package read.name read.texts (decls_of read) order in
-    let named = package-named read.name read.texts (decls_of read) order names ordered in
-    kept-seen p (packages_resolve_by_grammar name files read parsed order) (record { named = named; types = types; bounds = bounds })
+read-seen name files read parsed names order struct_order ordered types bounds =
+    let p : NamedPackageTree = resolved_package read.name read.texts (decls_of read) order struct_order in
+    let named = package-named read.name read.texts (decls_of read) order struct_order names ordered in
+    kept-seen p (packages_resolve_by_grammar name files read parsed order struct_order) (record { named = named; types = types; bounds = bounds })

@@ -15,7 +15,7 @@ use Rattle.wf_ast.specs.declared.types.Ty.TheVariants as types
 use Rattle.wf_ast.specs.TypedTree.{ValueTree, Target, to_number, to_element, to_flag, to_status, to_slice, to_nothing, Awaited, take_number, skip, write, Written, skip_fast, write_fast, copy_to_writer, copy_to_slice, Called, own, sub, Simple, assign, await, perform, invoke, break_from, continue_in, give_back, yield, claim, Site, Head, Block, end, plain, choose, loop}
 use Rattle.wf_ast.specs.TypedPackage.{Variable, MethodTree, PackageTree}
 use Rattle.wf_ast.specs.WellTyped.{is_coroutine, is_pure, number_of}
-use Rattle.wf_ast.specs.Value.{Value, num, truth_value, status_number, span, State, value, span_of, value_of, only_if}
+use Rattle.wf_ast.specs.Value.{Value, num, truth_value, status_number, span, value, span_of, value_of, only_if}
 use Rattle.wf_ast.specs.Value as values
 use Rattle.wf_meaning.specs.SourceState.{Life, raw, ready, disabled, Behind, stop, behind_if, again, Done, untouched, has_bytes, to_skip, to_write, has_yielded, Object, Remaining}
 use Rattle.wf_meaning.specs.Entry.{Admission, refused, admitted, admission, admission_by, admission_of_args, is_other, Answered, returned, suspended, refusal_of, zero_of, ended, coroutine_ended, has_kind}

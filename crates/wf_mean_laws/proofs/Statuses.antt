@@ -11,7 +11,7 @@ use Rattle.wf_ast.specs.declared.types.Ty.{Ty}
 use Rattle.wf_ast.specs.declared.types.Ty.TheVariants as types
 use Rattle.wf_ast.specs.TypedTree.{Path, local, field, arg, StatusTree, status, held, no_status, ValueTree, numeric, logical, state, elements, io, lost, Target, to_number, to_element, to_flag, to_status, to_slice, to_nothing, Simple, assign, await, perform, invoke, break_from, continue_in, give_back, yield, claim, Block, end, plain, choose, loop}
 use Rattle.wf_ast.specs.TypedPackage.{Variable, MethodTree, PackageTree}
-use Rattle.wf_ast.specs.Value.{Store, nowhere, host_array, field_array, Span, Value, num, truth_value, status_number, span, State, same_truth, value, span_of, status_value, value_of}
+use Rattle.wf_ast.specs.Value.{Store, nowhere, host_array, field_array, Span, Value, num, truth_value, status_number, span, same_truth, value, span_of, status_value, value_of}
 use Rattle.wf_ast.specs.Value as values
 use Rattle.wf_base.specs.Effects.{allows}
 use Rattle.wf_ast.specs.WellTyped.{Context, breaks, calls_method, same_mark, fits_type, fit_types, is_operator, is_suspension, number_of, well_assigned, well_block, well_cond, well_invoked, well_returned, well_simple, well_status}

@@ -65,7 +65,7 @@ KeptPackagesAreSeen = (p : NamedPackageTree) → package_by_grammar p ≡ true �
 abbrev pub ReadPackagesAreSeen : Type 0
 ReadPackagesAreSeen =
     (name : List ℕ) (files : List (List ℕ)) (read : Parsed) → IsParsed name files read → Decides (names.Breaks (declared read.texts (decls_of read))) None
-    → (order : List ℕ) → HasOrder (resolved_package read.name read.texts (decls_of read) order)
-    → Decides (types.Breaks (resolved_package read.name read.texts (decls_of read) order)) None
-    → bounds_refusal (resolved_package read.name read.texts (decls_of read) order) ≡ None
-    → ShowsItsSource (typed_package (resolved_package read.name read.texts (decls_of read) order))
+    → (order struct_order : List ℕ) → HasOrder (resolved_package read.name read.texts (decls_of read) order struct_order)
+    → Decides (types.Breaks (resolved_package read.name read.texts (decls_of read) order struct_order)) None
+    → bounds_refusal (resolved_package read.name read.texts (decls_of read) order struct_order) ≡ None
+    → ShowsItsSource (typed_package (resolved_package read.name read.texts (decls_of read) order struct_order))

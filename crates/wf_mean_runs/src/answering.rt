@@ -1,6 +1,6 @@
 // What stands before the call of a method and after it: its arguments, its struct state, and what becomes of its answer.
 
-ghost use Rattle.std.specs.Prelude.{◌≡◌, ◌<◌, ◌≤◌, ℕ, None, Some, false, IsTrue, is_some, length, map, option_and_then, option_map, slice_get};
+ghost use Rattle.std.specs.Prelude.{◌≡◌, ◌<◌, None, Some, false, IsTrue, is_some, length, map, option_and_then, option_map, slice_get};
 ghost use Rattle.std.specs.List.{list_all};
 ghost use Rattle.wf_ast.specs.declared.typed_nodes.TypedNodes.{TypedNodes};
 ghost use Rattle.wf_ast.specs.TypedTrees.{optional_target, tree_of};

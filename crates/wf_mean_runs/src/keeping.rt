@@ -7,7 +7,6 @@ ghost use Rattle.wf_ast.specs.TypedTree.{end};
 ghost use Rattle.wf_ast.specs.TypedPackage.{PackageTree, package_of};
 ghost use Rattle.wf_ast.specs.TypedInvariant.{IsTyped};
 ghost use Rattle.wf_ast.specs.WellTyped.{is_coroutine as is_marked_coroutine};
-ghost use Rattle.wf_meaning.specs.Entry.{ok};
 ghost use Rattle.wf_meaning.specs.SourceState.{stop};
 ghost use Rattle.wf_meaning.specs.World.{World, kept_locals, updated, with_object};
 ghost use Rattle.wf_meaning.specs.SourceCall.{fresh_local, left_over, set_remaining, taken_up};

@@ -2,11 +2,11 @@
 // the calls of methods in them, with no memory taken. The recursion goes as deep as statements stand inside one another, and as
 // methods call one another.
 
-ghost use Rattle.std.specs.Prelude.{◌≡◌, ◌<◌, ◌≤◌, ◌+◌, ◌&&◌, ℕ, length, drop, map, slice_get, IsTrue, Bool};
+ghost use Rattle.std.specs.Prelude.{◌≡◌, ◌<◌, ◌≤◌, ◌+◌, ◌&&◌, length, drop, map, slice_get, IsTrue};
 ghost use Rattle.std.specs.List.{list_all};
-ghost use Rattle.wf_ast.specs.TypedTree.{Block as TreeBlock, Called as TreeCalled, end, invoke, loop, plain};
-ghost use Rattle.wf_ast.specs.TypedTrees.{call_made, head_made, if_made, mark_of, onto, optional_target, otherwise_made, stmt_made, stmt_makers, tree_of};
-ghost use Rattle.wf_ast.specs.TypedPackage.{MethodTree, package_of};
+ghost use Rattle.wf_ast.specs.TypedTree.{Block as TreeBlock, end, loop, plain};
+ghost use Rattle.wf_ast.specs.TypedTrees.{call_made, head_made, if_made, onto, optional_target, otherwise_made, stmt_made, stmt_makers, tree_of};
+ghost use Rattle.wf_ast.specs.TypedPackage.{package_of};
 ghost use Rattle.wf_ast.specs.TypedInvariant.{IsTyped, block_below, callee_exists, is_expr, is_optional_expr, optional_block_below, stmt_below};
 ghost use Rattle.wf_meaning.specs.SourceState.{Done, stop, untouched};
 ghost use Rattle.wf_meaning.specs.SourceCall.{run_if as runs_if};

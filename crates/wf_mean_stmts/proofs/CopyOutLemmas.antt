@@ -1,15 +1,14 @@
 -- Bytes that go to a buffer, one after the other.
-use Rattle.std.proofs.Common.{◌≡◌, ℕ, zero, suc, ◌+◌, ◌-◌, ◌<◌, ◌≤◌, ◌^◌, Bool, true, false, List, [], ◌∷◌, ◌++◌, length, min, take, drop, set, MatchBool, Option, Some, None, nat_lt, refl, sym, ap, ◌∙◌, subst, arith}
+use Rattle.std.proofs.Common.{◌≡◌, ℕ, zero, suc, ◌+◌, ◌-◌, ◌<◌, ◌≤◌, ◌^◌, Bool, true, false, List, [], ◌∷◌, ◌++◌, length, min, take, drop, set, MatchBool, Some, nat_lt, refl, sym, ap, ◌∙◌, arith}
 use Rattle.std.specs.Prelude.{slice_get, if◌then◌else◌}
-use Rattle.std.specs.List.{list_all}
 use Rattle.std.proofs.lemmas.Bool.Decides.{nat_tests}
 use Rattle.std.proofs.lemmas.List.{length-drop, length-set, length-take, length-take-le, take_min, take-append-drop}
-use Rattle.wf_base.specs.BaseOps.{Buffer, appended, capacity, elements, has_room, overwritten, put, put_count, writer_length}
+use Rattle.wf_base.specs.BaseOps.{Buffer, appended, capacity, elements, has_room, overwritten, put, writer_length}
 use Rattle.wf_ast.specs.Value.{Store}
-use Rattle.wf_meaning.specs.World.{Vars, World, cells_at, updated, with_buffer}
+use Rattle.wf_meaning.specs.World.{Vars, cells_at, updated}
 use Rattle.wf_meaning.specs.SourceStep.{are_bytes, change_buffer}
 use Rattle.wf_meaning.proofs.Lists.{updated-at, updated-same}
-use Rattle.wf_mean_stmts.specs.Copies.{PutsOut, sets}
+use Rattle.wf_mean_stmts.specs.Copies.{PutsOut}
 use Rattle.wf_mean_stmts.proofs.StoringLemmas.{item_there}
 use Rattle.wf_mean_stmts.proofs.CopyLemmas.{all_get, drop_get, drop_whole, element_at, get_taken, sets_over, updated_like, updated_twice}
 

@@ -1,14 +1,13 @@
 -- Base methods that write and don't suspend, step by step.
-use Rattle.std.proofs.Common.{◌≡◌, ℕ, ◌<◌, Bool, true, false, ◌&&◌, List, Option, Some, None, nat_lt, min, refl, sym, ap, subst, ◌∙◌}
-use Rattle.std.specs.Prelude.{option_map, option_and_then, slice_get}
-use Rattle.turns.specs.Run.{Go, Fail}
+use Rattle.std.proofs.Common.{◌≡◌, ℕ, Bool, true, false, List, Option, Some, None, min, refl, sym, ap, subst}
+use Rattle.turns.specs.Run.{Go}
 use Rattle.wf_base.specs.BaseOps.{Buffer, put, put_count}
 use Rattle.wf_ast.specs.declared.typed_nodes.TypedNodes.{TypedNodes}
 use Rattle.wf_ast.specs.TypedTree.{Block, NumTree, SliceTree, Target, copy_to_slice, copy_to_writer, skip_fast, write_fast}
 use Rattle.wf_ast.specs.Value.{Span, num, only_if, span_of, value}
 use Rattle.wf_meaning.specs.SourceState.{Behind}
 use Rattle.wf_meaning.specs.World.{Vars, put_value}
-use Rattle.wf_meaning.specs.SourceStep.{are_bytes, at_block, change_buffer, copied_to_slice, elements_of, io_of, performed, skipped_fast, takes_all, with_some, written_fast}
+use Rattle.wf_meaning.specs.SourceStep.{are_bytes, at_block, change_buffer, elements_of, io_of, performed, skipped_fast, takes_all, with_some, written_fast}
 use Rattle.wf_mean_exprs.specs.MachineState.{sight}
 use Rattle.wf_mean_stmts.specs.declared.stage.Stage.{Stage}
 use Rattle.wf_mean_stmts.specs.Copies.{PutsOut, copied_if}

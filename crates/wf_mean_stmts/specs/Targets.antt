@@ -1,5 +1,5 @@
 -- What a variable does with a value that goes to it.
-use Rattle.std.specs.Prelude.{Bool, true, false, ◌&&◌, Option, None, Some, nat_le, if◌then◌else◌}
+use Rattle.std.specs.Prelude.{Bool, ◌&&◌, Option, None, Some, nat_le, if◌then◌else◌}
 use Rattle.wf_ast.specs.declared.types.Ty.{Ty}
 use Rattle.wf_ast.specs.declared.types.Ty.TheVariants as types
 use Rattle.wf_ast.specs.Value.{Value, num, truth_value, status_number, span}

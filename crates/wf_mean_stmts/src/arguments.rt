@@ -1,6 +1,6 @@
 // The arguments of calls.
 
-ghost use Rattle.std.specs.Prelude.{◌≡◌, IsTrue, length, map, option_map, option_and_then};
+ghost use Rattle.std.specs.Prelude.{◌≡◌, IsTrue, length, map, option_map};
 ghost use Rattle.std.specs.List.{list_all};
 ghost use Rattle.wf_ast.specs.TypedTrees.{tree_of};
 ghost use Rattle.wf_ast.specs.TypedPackage.{variable_of};

@@ -5,7 +5,6 @@ ghost use Rattle.wf_text.specs.StatusText.{category_of};
 ghost use Rattle.wf_text.specs.declared.categories.Category.TheVariants.{Fault};
 ghost use Rattle.wf_ast.specs.TypedPackage.{PackageTree, package_of};
 ghost use Rattle.wf_ast.specs.WellTyped.{is_pure as is_marked_pure, is_coroutine as is_marked_coroutine};
-ghost use Rattle.wf_ast.specs.TypedInvariant.{IsTyped};
 ghost use Rattle.wf_meaning.specs.Entry.{admission, admission_of_args, ended, is_other as is_other_one, has_kind, text_of_status};
 ghost use Rattle.wf_mean_exprs.specs.MachineState.{object_seen};
 ghost use Rattle.wf_mean_stmts.specs.Entries.{Admits, answer_seen};

@@ -1,6 +1,6 @@
 // Base methods that write and don't suspend.
 
-ghost use Rattle.std.specs.Prelude.{◌≡◌, ◌<◌, ℕ, IsTrue, MatchBool, Some, length, slice_get};
+ghost use Rattle.std.specs.Prelude.{◌≡◌, ◌<◌, IsTrue, MatchBool, Some, length, slice_get};
 ghost use Rattle.wf_base.specs.BaseOps.{Buffer, can_skip_fast, skipped};
 ghost use Rattle.wf_ast.specs.declared.typed_nodes.TypedNodes.{TypedNodes};
 ghost use Rattle.wf_ast.specs.TypedTree.{Target, copy_to_slice as to_slice, copy_to_writer as to_writer, skip_fast as skips, write_fast as writes};

@@ -6,7 +6,7 @@ use Rattle.std.specs.List.{AllByRecursion}
 use Rattle.wf_base.specs.HostRun.{Host}
 use Rattle.wf_base.specs.BaseOps.{Buffer}
 use Rattle.wf_ast.specs.TypedTree.{Path, local, field, arg, SliceTree, slice, array, cut, ValueTree, numeric, logical, state, elements, io, lost, Target, to_number, to_element, to_flag, to_status, to_slice, to_nothing}
-use Rattle.wf_ast.specs.Value.{Store, nowhere, host_array, field_array, Span, Value, num, truth_value, status_number, span, State, value, span_of, part_of, end_value, truth_of, status_value, value_of, only_if}
+use Rattle.wf_ast.specs.Value.{Store, nowhere, host_array, field_array, Span, Value, num, truth_value, status_number, span, value, span_of, part_of, end_value, value_of}
 use Rattle.wf_ast.specs.Value as values
 use Rattle.wf_meaning.specs.SourceState.{Held, held_num, held_truth, held_status, held_cells, held_part, Object, Remaining}
 use Rattle.wf_meaning.specs.World.{World, Body, Vars, updated, with_object, with_field, value_held, value_at, as_span, as_buffer, with_cells, with_buffer, change_held, view, set_path, set_element, put_value, kept_local}

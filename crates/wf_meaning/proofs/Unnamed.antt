@@ -13,7 +13,7 @@ use Rattle.wf_ast.specs.declared.types.Ty.{Ty}
 use Rattle.wf_ast.specs.declared.types.Ty.TheVariants as types
 use Rattle.wf_ast.specs.TypedTree.{Block}
 use Rattle.wf_ast.specs.TypedPackage.{Variable, MethodTree, PackageTree}
-use Rattle.wf_ast.specs.Value.{Value, num, truth_value, status_number, span}
+use Rattle.wf_ast.specs.Value.{Value, num, truth_value}
 use Rattle.wf_ast.specs.Value as values
 use Rattle.wf_meaning.specs.SourceState.{Remaining, Object, SourceState, cleared_object, raw_objects, inside_field, inside_fields, fields_of, fresh_receiver, fresh_state}
 use Rattle.wf_meaning.specs.Entry.{Answered}

@@ -75,7 +75,7 @@ parse_loop =
 
 abbrev pub demo : PackageTree
 demo =
-    record { package_name = codes "demo"; statuses = base_statuses ++ (codes "#demo: not a digit" ∷ codes "#demo: too large" ∷ []); structs = record { name = codes "parser"; public = true; fields = variable (codes "val") word_ty ∷ [] } ∷ []; methods = record { name = codes "value"; of = 0; public = true; mark = Pure; args = []; locals = []; gives = Some word_ty; body = plain (site 0 7 5) (give_back (Some (numeric (val 7 12)))) end } ∷ record { name = codes "parse"; of = 0; public = true; mark = Coroutine; args = variable (codes "src") types.Reader ∷ []; locals = variable (codes "c") byte_ty ∷ []; gives = None; body = loop (site 12 11 5) (record { cond = truth (on 11 11) true; clauses = []; is_left = false; close = on 27 5 }) parse_loop end } ∷ []; order = 0 ∷ 1 ∷ [] }
+    record { package_name = codes "demo"; statuses = base_statuses ++ (codes "#demo: not a digit" ∷ codes "#demo: too large" ∷ []); structs = record { name = codes "parser"; public = true; fields = variable (codes "val") word_ty ∷ [] } ∷ []; methods = record { name = codes "value"; of = 0; public = true; mark = Pure; args = []; locals = []; gives = Some word_ty; body = plain (site 0 7 5) (give_back (Some (numeric (val 7 12)))) end } ∷ record { name = codes "parse"; of = 0; public = true; mark = Coroutine; args = variable (codes "src") types.Reader ∷ []; locals = variable (codes "c") byte_ty ∷ []; gives = None; body = loop (site 12 11 5) (record { cond = truth (on 11 11) true; clauses = []; is_left = false; close = on 27 5 }) parse_loop end } ∷ []; order = 0 ∷ 1 ∷ []; struct_order = 0 ∷ [] }
 
 -- What a host knows of it.
 abbrev pub demo_surface : Surface

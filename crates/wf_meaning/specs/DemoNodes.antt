@@ -210,4 +210,4 @@ stmt_nodes =
 
 abbrev pub demo_nodes : TypedNodes
 demo_nodes =
-    record { «package» = codes "demo"; statuses = base_statuses ++ (codes "#demo: not a digit" ∷ codes "#demo: too large" ∷ []); texts = codes "parser" ∷ codes "val" ∷ codes "value" ∷ codes "parse" ∷ codes "src" ∷ codes "c" ∷ []; exprs = expr_nodes; types = expr_types; constants = expr_constants; stmts = stmt_nodes; structs = record { name = text_id 0; public = true; fields = var 1 word_ty (on 4 5) ∷ []; at = on 3 12 } ∷ []; methods = record { name = text_id 2; of = record { 0 = 0 }; public = true; mark = Pure; args = []; locals = []; gives = Some word_ty; at = on 6 17 } ∷ record { name = text_id 3; of = record { 0 = 0 }; public = true; mark = Coroutine; args = var 4 types.Reader (on 9 24) ∷ []; locals = var 5 byte_ty (on 10 9) ∷ []; gives = None; at = on 9 17 } ∷ []; bodies = record { items = stmt_id 0 ∷ [] } ∷ record { items = stmt_id 12 ∷ [] } ∷ []; first_locals = expr_id 0 ∷ expr_id 45 ∷ []; order = 0 ∷ 1 ∷ [] }
+    record { «package» = codes "demo"; statuses = base_statuses ++ (codes "#demo: not a digit" ∷ codes "#demo: too large" ∷ []); texts = codes "parser" ∷ codes "val" ∷ codes "value" ∷ codes "parse" ∷ codes "src" ∷ codes "c" ∷ []; exprs = expr_nodes; types = expr_types; constants = expr_constants; stmts = stmt_nodes; structs = record { name = text_id 0; public = true; fields = var 1 word_ty (on 4 5) ∷ []; at = on 3 12 } ∷ []; methods = record { name = text_id 2; of = record { 0 = 0 }; public = true; mark = Pure; args = []; locals = []; gives = Some word_ty; at = on 6 17 } ∷ record { name = text_id 3; of = record { 0 = 0 }; public = true; mark = Coroutine; args = var 4 types.Reader (on 9 24) ∷ []; locals = var 5 byte_ty (on 10 9) ∷ []; gives = None; at = on 9 17 } ∷ []; bodies = record { items = stmt_id 0 ∷ [] } ∷ record { items = stmt_id 12 ∷ [] } ∷ []; first_locals = expr_id 0 ∷ expr_id 45 ∷ []; order = 0 ∷ 1 ∷ []; struct_order = 0 ∷ [] }

@@ -98,7 +98,7 @@ pub data Answered : Type 0 where
   returned : Option Value → Answered
   suspended : (status : ℕ) → Answered
 
--- What a refused call answers: the status where the method answers a status, else zero, false or nothing. [Entry]
+-- What a refused call answers: of a method with a status as its answer that status, of another zero, false or nothing. [Entry]
 abbrev pub zero_of : (status : ℕ) → Option Ty → Option Value
 zero_of status None = None
 zero_of status (Some (types.Num width lo hi)) = Some (num 0)

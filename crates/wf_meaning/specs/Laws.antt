@@ -9,7 +9,7 @@ use Rattle.wf_ast.specs.Value.{Value, num, truth_value, status_number, span, buf
 use Rattle.wf_meaning.specs.World.{empty_span}
 use Rattle.wf_meaning.specs.SourceState.{Held, held_num, held_truth, held_status, held_cells, held_part, ready, Remaining, Object, SourceState}
 use Rattle.wf_ast.specs.StatementOrder.{stands_before}
-use Rattle.wf_meaning.specs.Remaining.{Items, is_point, points_in, number_of, rest}
+use Rattle.wf_meaning.specs.Remaining.{Items, is_point, number_of, rest}
 
 -- The first of the remaining statements is the point with the number `k`.
 pub record BeginsWithPoint (body : Block) (k : ℕ) (items : Items) : Type 0 where

@@ -1,7 +1,7 @@
 -- Suspension points, their numbers, and what remains after each.
 -- In brackets stands the section of docs/SEMANTICS.md that a definition states, and with `note` the Wuffs document
 -- wuffs/doc/note/NAME.md that it follows.
-use Rattle.std.specs.Prelude.{ℕ, ◌+◌, Bool, true, false, not, ◌&&◌, ◌||◌, List, [], ◌∷◌, ◌++◌, Option, None, Some, nat_eq, nat_lt, count_by, if◌then◌else◌}
+use Rattle.std.specs.Prelude.{ℕ, ◌+◌, Bool, true, false, not, ◌&&◌, List, [], ◌∷◌, ◌++◌, Option, None, Some, nat_eq, count_by, if◌then◌else◌}
 use Rattle.wf_text.specs.declared.place.Place.{Place}
 use Rattle.wf_base.specs.declared.marks.Mark.{Mark}
 use Rattle.wf_ast.specs.TypedTree.{Simple, await, invoke, yield, Site, Head, Block, end, plain, choose, loop}
@@ -44,8 +44,8 @@ first None other = other
 first (Some items) other = Some items
 
 -- What stands when the point with the number `k` inside a block is reached, `behind` following the block: the statement
--- and what follows it in its block, and then from the innermost outwards what follows each `if` that holds it, and for
--- each loop that holds it the loop's marker and what follows the loop. [What remains; note coroutines]
+-- and what follows it in its block; after that, for one block round it after the other, what follows each `if` that holds it,
+-- and for each loop that holds it the loop's marker and what follows the loop. [What remains; note coroutines]
 abbrev pub rest_in : (Site → ℕ) → (k : ℕ) → Block → Behind → Option Items
 rest_in number k end behind = None
 rest_in number k (plain site s rest) behind =

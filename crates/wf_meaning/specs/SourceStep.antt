@@ -19,7 +19,7 @@ use Rattle.wf_ast.specs.declared.types.Ty.TheVariants as types
 use Rattle.wf_ast.specs.TypedTree.{CondTree, ValueTree, Target, to_nothing, Awaited, take_number, skip, write, Written, skip_fast, write_fast, copy_to_writer, copy_to_slice, Called, own, sub, Simple, assign, await, perform, invoke, break_from, continue_in, give_back, yield, claim, Site, Head, Block, end, plain, choose, loop}
 use Rattle.wf_ast.specs.TypedPackage.{Variable, MethodTree, PackageTree}
 use Rattle.wf_ast.specs.WellTyped.{is_coroutine, is_word_true, number_of}
-use Rattle.wf_ast.specs.Value.{Store, Span, Value, num, truth_value, status_number, State, value, span_of, truth_of, value_of, only_if}
+use Rattle.wf_ast.specs.Value.{Span, Value, num, truth_value, status_number, State, value, span_of, truth_of, value_of, only_if}
 use Rattle.wf_meaning.specs.SourceState.{Object, Behind, stop, behind_if, again, Done, untouched, has_bytes, to_skip, to_write, has_yielded, Remaining, held_part, Held}
 use Rattle.wf_meaning.specs.Entry.{ok, short_read, short_write, cannot_suspend, has_kind, Admission, refused, admitted, admission, Answered, returned, suspended, refusal_of, ended}
 use Rattle.wf_meaning.specs.Remaining.{hands_on, Marker, marker_of}

@@ -1,7 +1,7 @@
 // Worked examples: what the meaning gives for small packages, computed. Each is the contract of a function that does
 // nothing.
 
-ghost use Rattle.std.specs.Prelude.{◌≡◌, Bool, true, false};
+ghost use Rattle.std.specs.Prelude.{◌≡◌, true, false};
 ghost use Rattle.wf_ast.specs.declared.things.Thing.TheVariants.{Local, This};
 ghost use Rattle.wf_ast.specs.Places.{expr_places, IsFirstAt};
 ghost use Rattle.wf_ast.specs.TypedTrees.{tree_of};

@@ -1,10 +1,10 @@
 // The laws of the source's meaning. Each is the contract of a function that does nothing.
 
-ghost use Rattle.std.specs.Prelude.{◌≡◌, ℕ, ◌+◌, ◌<◌, Bool, true, false, List, Option, Some, None, IsSome, slice_get, length, is_some, nat_eq, ◌∷◌};
+ghost use Rattle.std.specs.Prelude.{◌≡◌, ℕ, ◌+◌, true, false, List, Some, None, IsSome, slice_get, length, is_some, nat_eq, ◌∷◌};
 ghost use Rattle.std.specs.List.{AllByRecursion};
 ghost use Rattle.wf_text.specs.Seen.{Answer, status as status_answer};
 ghost use Rattle.wf_text.specs.HostActions.{Receiver};
-ghost use Rattle.wf_base.specs.HostRun.{Host, HostCall, Response, answers, needs_more, not_defined};
+ghost use Rattle.wf_base.specs.HostRun.{Host, HostCall, answers, needs_more, not_defined};
 ghost use Rattle.wf_ast.specs.TypedTree.{Site, Block};
 ghost use Rattle.wf_ast.specs.declared.typed_nodes.TypedNodes.{TypedNodes};
 ghost use Rattle.wf_ast.specs.TypedPackage.{MethodTree, PackageTree, package_of};

@@ -2,7 +2,6 @@
 -- a field.
 use Rattle.std.proofs.Common.{◌&&◌, ◌^◌, ◌≡◌, ℕ, zero, suc, ◌+◌, Bool, true, false, List, [], ◌∷◌, Some, refl, ap, ◌∙◌, subst}
 use Rattle.std.specs.Prelude.{nat_lt, slice_get, slice_set, option_and_then}
-use Rattle.wf_base.specs.BaseOps.{Buffer}
 use Rattle.wf_base.specs.BaseOps as ops
 use Rattle.wf_ast.specs.TypedTree.{Path, local, field, arg, Target, to_number, to_element, to_flag, to_status, to_slice, to_nothing, Written, skip_fast, write_fast, copy_to_writer, copy_to_slice}
 use Rattle.wf_ast.specs.Value.{Store, nowhere, host_array, field_array, Value, num, truth_value, status_number, span, buffer, value, span_of, only_if}

@@ -1,7 +1,7 @@
 // A law of the source's meaning. It is the contract of a function that does nothing.
 
-ghost use Rattle.std.specs.Prelude.{◌≡◌, ℕ, Bool, List, Option};
-ghost use Rattle.turns.specs.Run.{Outcome, Got};
+ghost use Rattle.std.specs.Prelude.{◌≡◌, ℕ, List, Option};
+ghost use Rattle.turns.specs.Run.{Got};
 ghost use Rattle.wf_ast.specs.TypedPackage.{MethodTree, PackageTree};
 ghost use Rattle.wf_ast.specs.Value.{Value};
 ghost use Rattle.wf_meaning.specs.Entry.{Answered};

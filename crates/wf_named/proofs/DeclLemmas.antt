@@ -62,3 +62,7 @@ package_method p m new e =
 pub package_order : (p : NamedParts) (new : List ℕ) → named_package (record p { order = new }) ≡ record (named_package p) { order = new }
 unfolding named_package
 package_order p new = refl
+
+pub package_struct_order : (p : NamedParts) (new : List ℕ) → named_package (record p { struct_order = new }) ≡ record (named_package p) { struct_order = new }
+unfolding named_package
+package_struct_order p new = refl

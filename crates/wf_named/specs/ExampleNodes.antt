@@ -121,4 +121,5 @@ counting_nodes =
       structs = record { name = name 2 (at 3 12); public = true; fields = var 3 (at 4 5) (base (bases.Number W32) (at 4 14)) ∷ [] } ∷ [];
       methods = count_method ∷ step_method ∷ [];
       order = 1 ∷ 0 ∷ [];
+      struct_order = 0 ∷ [];
     }

@@ -117,46 +117,50 @@ step body =
 abbrev pub step_body : NamedBlockTree
 step_body = more_stmts (assign (to_path (field 0 (at 19 5))) (Some ops.ModAdd) (at 19 17) (convert (path (arg 0 (at 19 24))) (u32 (at 19 35)) (at 19 32)) (at 19 5)) (close (at 20 1))
 
-abbrev pub package_with : List NamedStructTree → NamedMethodTree → NamedMethodTree → List ℕ → NamedPackageTree
-package_with structs first second order =
-    record { package_name = codes "demo"; consts = zero_const ∷ []; statuses = word (codes "#not a digit") (at 1 12) ∷ []; structs = structs; methods = first ∷ second ∷ []; order = order }
+abbrev pub package_with : List NamedStructTree → NamedMethodTree → NamedMethodTree → (order struct_order : List ℕ) → NamedPackageTree
+package_with structs first second order struct_order =
+    record { package_name = codes "demo"; consts = zero_const ∷ []; statuses = word (codes "#not a digit") (at 1 12) ∷ []; structs = structs; methods = first ∷ second ∷ []; order = order; struct_order = struct_order }
 
 abbrev pub breaking : NamedStmtTree
 breaking = leave 0 (at 11 13)
 
 abbrev pub counting : NamedPackageTree
-counting = package_with (counter ∷ []) (count (Read ReadU8) breaking (own 1) one_arg) (step step_body) (1 ∷ 0 ∷ [])
+counting = package_with (counter ∷ []) (count (Read ReadU8) breaking (own 1) one_arg) (step step_body) (1 ∷ 0 ∷ []) (0 ∷ [])
 
 -- The same with a jump out of two loops, where one stands round it.
 abbrev pub leaving_two : NamedPackageTree
-leaving_two = package_with (counter ∷ []) (count (Read ReadU8) (leave 1 (at 11 13)) (own 1) one_arg) (step step_body) (1 ∷ 0 ∷ [])
+leaving_two = package_with (counter ∷ []) (count (Read ReadU8) (leave 1 (at 11 13)) (own 1) one_arg) (step step_body) (1 ∷ 0 ∷ []) (0 ∷ [])
 
 -- With a method of a writer on a reader.
 abbrev pub wrong_kind : NamedPackageTree
-wrong_kind = package_with (counter ∷ []) (count WriterLength breaking (own 1) one_arg) (step step_body) (1 ∷ 0 ∷ [])
+wrong_kind = package_with (counter ∷ []) (count WriterLength breaking (own 1) one_arg) (step step_body) (1 ∷ 0 ∷ []) (0 ∷ [])
 
 -- Without the argument that the method wants.
 abbrev pub no_argument : NamedPackageTree
-no_argument = package_with (counter ∷ []) (count (Read ReadU8) breaking (own 1) no_arg) (step step_body) (1 ∷ 0 ∷ [])
+no_argument = package_with (counter ∷ []) (count (Read ReadU8) breaking (own 1) no_arg) (step step_body) (1 ∷ 0 ∷ []) (0 ∷ [])
 
 -- With a call through a field that is no struct.
 abbrev pub no_struct : NamedPackageTree
-no_struct = package_with (counter ∷ []) (count (Read ReadU8) breaking (through 0 1) one_arg) (step step_body) (1 ∷ 0 ∷ [])
+no_struct = package_with (counter ∷ []) (count (Read ReadU8) breaking (through 0 1) one_arg) (step step_body) (1 ∷ 0 ∷ []) (0 ∷ [])
 
 -- With a local that the method doesn't have.
 abbrev pub no_local : NamedPackageTree
-no_local = package_with (counter ∷ []) (count (Read ReadU8) breaking (own 1) (more_args (path (local 1 (at 15 24))) no_arg)) (step step_body) (1 ∷ 0 ∷ [])
+no_local = package_with (counter ∷ []) (count (Read ReadU8) breaking (own 1) (more_args (path (local 1 (at 15 24))) no_arg)) (step step_body) (1 ∷ 0 ∷ []) (0 ∷ [])
 
 -- In an order in which the caller comes first.
 abbrev pub caller_first : NamedPackageTree
-caller_first = package_with (counter ∷ []) (count (Read ReadU8) breaking (own 1) one_arg) (step step_body) (0 ∷ 1 ∷ [])
+caller_first = package_with (counter ∷ []) (count (Read ReadU8) breaking (own 1) one_arg) (step step_body) (0 ∷ 1 ∷ []) (0 ∷ [])
 
 -- With a method that calls itself, for which there is no order.
 abbrev pub cycle : NamedPackageTree
-cycle = package_with (counter ∷ []) (count (Read ReadU8) breaking (own 1) one_arg) (step (more_stmts (do_call (call (own 1) (at 19 10) Impure one_arg) (at 19 5)) (close (at 20 1)))) (1 ∷ 0 ∷ [])
+cycle = package_with (counter ∷ []) (count (Read ReadU8) breaking (own 1) one_arg) (step (more_stmts (do_call (call (own 1) (at 19 10) Impure one_arg) (at 19 5)) (close (at 20 1)))) (1 ∷ 0 ∷ []) (0 ∷ [])
 
 -- With a struct that holds itself.
 abbrev pub holding_itself : NamedPackageTree
 holding_itself =
     package_with (record { name = word (codes "counter") (at 3 12); public = true; fields = var (codes "digits") (at 4 5) (u32 (at 4 14)) ∷ var (codes "inner") (at 5 5) (struct_type 0 (at 5 13)) ∷ [] } ∷ [])
-    (count (Read ReadU8) breaking (own 1) one_arg) (step step_body) (1 ∷ 0 ∷ [])
+    (count (Read ReadU8) breaking (own 1) one_arg) (step step_body) (1 ∷ 0 ∷ []) (0 ∷ [])
+
+-- In an order without the struct.
+abbrev pub struct_left_out : NamedPackageTree
+struct_left_out = package_with (counter ∷ []) (count (Read ReadU8) breaking (own 1) one_arg) (step step_body) (1 ∷ 0 ∷ []) []

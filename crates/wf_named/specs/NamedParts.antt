@@ -23,7 +23,8 @@ use Rattle.wf_named.specs.NamedTree.{NamedExprTree, NamedStmtTree, NamedPackageT
 use Rattle.wf_named.specs.NamedTrees.{expr_trees, stmt_trees, const_made, struct_made, method_made, word_at}
 
 -- The parts of a resolved package: its name, its texts in the order in which they are first seen, its nodes and its
--- declarations. `order` has the numbers of all methods, each after those that it calls.
+-- declarations. `order` has the numbers of all methods, each after those that it calls, and `struct_order` those of all
+-- structs, each after those that its fields hold.
 pub record NamedParts : Type 0 where
   pub package_name : List ℕ
   pub texts : List (List ℕ)
@@ -34,6 +35,7 @@ pub record NamedParts : Type 0 where
   pub structs : List NamedStruct
   pub methods : List NamedMethod
   pub order : List ℕ
+  pub struct_order : List ℕ
 
 -- Their trees: of all expressions and of all statements, by number, and of the whole package.
 abbrev pub exprs_of : NamedParts → List NamedExprTree
@@ -51,6 +53,7 @@ named_package p =
       structs = map (struct_made p.texts (exprs_of p)) p.structs;
       methods = map (method_made p.texts (exprs_of p) (stmts_of p)) p.methods;
       order = p.order;
+      struct_order = p.struct_order;
     }
 
 -- The parts of an expression have numbers below `k`.

@@ -134,7 +134,8 @@ pub record NamedMethodTree : Type 0 where
   pub body : NamedBlockTree
 
 -- Constants, structs and methods have their places in these lists as their numbers; a status of the package has its
--- place after the ten of the language. `order` has the numbers of all methods, each after those that it calls.
+-- place after the ten of the language. `order` has the numbers of all methods, each after those that it calls, and
+-- `struct_order` those of all structs, each after those that its fields hold.
 pub record NamedPackageTree : Type 0 where
   pub package_name : List ℕ
   pub consts : List ConstTree
@@ -142,3 +143,4 @@ pub record NamedPackageTree : Type 0 where
   pub structs : List NamedStructTree
   pub methods : List NamedMethodTree
   pub order : List ℕ
+  pub struct_order : List ℕ

@@ -17,7 +17,7 @@ use Rattle.wf_named.specs.NamedTree.{NamedExprTree, number, status, truth, path,
 
 -- What stands round an expression: its package, the number of constants that it knows, the struct of its receiver, and
 -- the arguments and locals of its method.
-pub record Scope : Type 0 where
+pub record NamedScope : Type 0 where
   pub within : NamedPackageTree
   pub consts : ℕ
   pub of : Option ℕ
@@ -33,13 +33,13 @@ fields_in p (Some s) = fields (slice_get p.structs s)
     fields (Some it) = it.fields
 
 -- The declared type of what a path names, where it is there.
-abbrev pub type_of_variable : Scope → Variable → Option NamedTypeTree
+abbrev pub type_of_variable : NamedScope → Variable → Option NamedTypeTree
 type_of_variable s (variables.Const c) = if nat_lt c.0 s.consts then option_map (λ x. x.of) (slice_get s.within.consts c.0) else None
 type_of_variable s (variables.Local x) = option_map (λ x. x.of) (slice_get s.locals x.0)
 type_of_variable s (variables.Field x) = option_map (λ x. x.of) (slice_get (fields_in s.within s.of) x.0)
 type_of_variable s (variables.Arg x) = option_map (λ x. x.of) (slice_get s.args x.0)
 
-abbrev pub is_there : Scope → NamedPath → Bool
+abbrev pub is_there : NamedScope → NamedPath → Bool
 is_there s p = is_some (type_of_variable s p.of)
 
 -- The kind of value that a declared type has base methods for.
@@ -77,7 +77,7 @@ abbrev pub args_of_sub : Option NamedTypeTree → Option NamedMethodTree → Opt
 args_of_sub (Some (struct_type s at)) (Some m) = if m.public && nat_eq m.of s then Some (length m.args) else None
 args_of_sub t m = None
 
-abbrev pub args_wanted : Scope → NamedCallee → Option ℕ
+abbrev pub args_wanted : NamedScope → NamedCallee → Option ℕ
 args_wanted s (callees.Own m) = args_of_own s.of (slice_get s.within.methods m.0)
 args_wanted s (callees.Sub x m) = args_of_sub (type_of_variable s (variables.Field x)) (slice_get s.within.methods m.0)
 args_wanted s (callees.Base on sig) =
@@ -97,11 +97,11 @@ is_io (Some kinds.Reader) = true
 is_io (Some kinds.Writer) = true
 is_io kind = false
 
-abbrev pub io_named : Scope → Variable → Option ℕ
+abbrev pub io_named : NamedScope → Variable → Option ℕ
 io_named s (variables.Arg x) = if is_io (option_and_then kind_of (type_of_variable s (variables.Arg x))) then Some x.0 else None
 io_named s x = None
 
-abbrev pub io_handed : Scope → NamedExprTree → Option ℕ
+abbrev pub io_handed : NamedScope → NamedExprTree → Option ℕ
 io_handed s (path p) = io_named s p.of
 io_handed s e = None
 
@@ -109,17 +109,17 @@ abbrev pub is_that : ℕ → Option ℕ → Bool
 is_that a None = false
 is_that a (Some b) = nat_eq a b
 
-abbrev pub hands_on : Scope → (a : ℕ) → NamedArgTrees → Bool
+abbrev pub hands_on : NamedScope → (a : ℕ) → NamedArgTrees → Bool
 hands_on s a no_arg = false
 hands_on s a (more_args e others) = is_that a (io_handed s e) || hands_on s a others
 
 -- It isn't handed on again by the arguments after it.
-abbrev pub never_again : Scope → Option ℕ → NamedArgTrees → Bool
+abbrev pub never_again : NamedScope → Option ℕ → NamedArgTrees → Bool
 never_again s None others = true
 never_again s (Some a) others = not (hands_on s a others)
 
 abbrev mutual
-  pub named_expr : Scope → NamedExprTree → Bool
+  pub named_expr : NamedScope → NamedExprTree → Bool
   named_expr s (number value at) = true
   named_expr s (status n at) = nat_lt n (10 + length s.within.statuses)
   named_expr s (truth value at) = true
@@ -131,50 +131,50 @@ abbrev mutual
   named_expr s (convert e t at) = named_expr s e && named_type s t
   named_expr s (negation e at) = named_expr s e
 
-  pub named_part : Scope → NamedPartTree → Bool
+  pub named_part : NamedScope → NamedPartTree → Bool
   named_part s absent = true
   named_part s (present e) = named_expr s e
 
-  pub named_links : Scope → NamedLinkTrees → Bool
+  pub named_links : NamedScope → NamedLinkTrees → Bool
   named_links s no_link = true
   named_links s (link sign e others) = named_expr s e && named_links s others
 
-  pub named_args : Scope → NamedArgTrees → Bool
+  pub named_args : NamedScope → NamedArgTrees → Bool
   named_args s no_arg = true
   named_args s (more_args e others) = named_expr s e && (named_args s others && never_again s (io_handed s e) others)
 
-  pub named_call : Scope → NamedCallTree → Bool
+  pub named_call : NamedScope → NamedCallTree → Bool
   named_call s (call callee at mark args) = is_wanted (args_wanted s callee) (count_args args) && named_args s args
 
-  pub named_type : Scope → NamedTypeTree → Bool
+  pub named_type : NamedScope → NamedTypeTree → Bool
   named_type s (slice_of at element) = named_type s element
   named_type s (array_of length at element) = named_expr s length && named_type s element
   named_type s (base_type of at bounds) = named_bounds s bounds
   named_type s (struct_type n at) = nat_lt n (length s.within.structs)
 
-  pub named_bounds : Scope → NamedBoundsTree → Bool
+  pub named_bounds : NamedScope → NamedBoundsTree → Bool
   named_bounds s unrefined = true
   named_bounds s (refined low high) = named_part s low && named_expr s high
 
-abbrev pub named_target : Scope → NamedTargetTree → Bool
+abbrev pub named_target : NamedScope → NamedTargetTree → Bool
 named_target s (to_path p) = is_there s p
 named_target s (to_element p place at) = is_there s p && named_expr s place
 
-abbrev pub named_clauses : Scope → NamedClauseTrees → Bool
+abbrev pub named_clauses : NamedScope → NamedClauseTrees → Bool
 named_clauses s no_clause = true
 named_clauses s (more_clauses kind condition at others) = named_expr s condition && named_clauses s others
 
-abbrev pub named_letters : Scope → LetterTrees → Bool
+abbrev pub named_letters : NamedScope → LetterTrees → Bool
 named_letters s no_letter = true
 named_letters s (more_letters letter value others) = named_expr s value && named_letters s others
 
-abbrev pub named_via : Scope → NamedViaTree → Bool
+abbrev pub named_via : NamedScope → NamedViaTree → Bool
 named_via s by_itself = true
 named_via s (via text given) = named_letters s given
 
 -- `loops` is the number of loops round the statement.
 abbrev mutual
-  pub named_stmt : Scope → (loops : ℕ) → NamedStmtTree → Bool
+  pub named_stmt : NamedScope → (loops : ℕ) → NamedStmtTree → Bool
   named_stmt s loops (assign target op sign value at) = named_target s target && named_expr s value
   named_stmt s loops (keep target c at) = named_target s target && named_call s c
   named_stmt s loops (do_call c at) = named_call s c
@@ -186,17 +186,17 @@ abbrev mutual
   named_stmt s loops (suspend value at) = named_expr s value
   named_stmt s loops (claim goal by at) = named_expr s goal && named_via s by
 
-  pub named_block : Scope → (loops : ℕ) → NamedBlockTree → Bool
+  pub named_block : NamedScope → (loops : ℕ) → NamedBlockTree → Bool
   named_block s loops (close at) = true
   named_block s loops (more_stmts first others) = named_stmt s loops first && named_block s loops others
 
-  pub named_arms : Scope → (loops : ℕ) → NamedArmTrees → Bool
+  pub named_arms : NamedScope → (loops : ℕ) → NamedArmTrees → Bool
   named_arms s loops no_else = true
   named_arms s loops (otherwise body) = named_block s loops body
   named_arms s loops (arm condition body others) = named_expr s condition && (named_block s loops body && named_arms s loops others)
 
 -- A constant knows only those before it; `n` is the number of the first one in the list.
-abbrev pub scope_of_const : NamedPackageTree → ℕ → Scope
+abbrev pub scope_of_const : NamedPackageTree → ℕ → NamedScope
 scope_of_const p n = record { within = p; consts = n; of = None; args = []; locals = [] }
 
 abbrev pub named_consts : NamedPackageTree → (n : ℕ) → List ConstTree → Bool
@@ -204,17 +204,17 @@ named_consts p n [] = true
 named_consts p n (c ∷ cs) = (named_type (scope_of_const p n) c.of && named_expr (scope_of_const p n) c.value) && named_consts p (suc n) cs
 
 -- The types of fields are read in their struct, those of arguments and locals in their method.
-abbrev pub scope_of_struct : NamedPackageTree → ℕ → Scope
+abbrev pub scope_of_struct : NamedPackageTree → ℕ → NamedScope
 scope_of_struct p n = record { within = p; consts = length p.consts; of = Some n; args = []; locals = [] }
 
 abbrev pub named_structs : NamedPackageTree → (n : ℕ) → List NamedStructTree → Bool
 named_structs p n [] = true
 named_structs p n (it ∷ ss) = list_all (λ x. named_type (scope_of_struct p n) x.of) it.fields && named_structs p (suc n) ss
 
-abbrev pub scope_of_method : NamedPackageTree → NamedMethodTree → Scope
+abbrev pub scope_of_method : NamedPackageTree → NamedMethodTree → NamedScope
 scope_of_method p m = record { within = p; consts = length p.consts; of = Some m.of; args = m.args; locals = m.locals }
 
-abbrev pub named_result : Scope → Option NamedTypeTree → Bool
+abbrev pub named_result : NamedScope → Option NamedTypeTree → Bool
 named_result s None = true
 named_result s (Some t) = named_type s t
 
@@ -322,6 +322,15 @@ abbrev pub all_whole : NamedPackageTree → (n : ℕ) → List NamedStructTree �
 all_whole p n [] = true
 all_whole p n (it ∷ ss) = is_whole p (length p.structs) n && all_whole p (suc n) ss
 
+-- Each struct of the list holds only those that stand before it.
+abbrev pub structs_in_front : NamedPackageTree → (front rest : List ℕ) → Bool
+structs_in_front p front [] = true
+structs_in_front p front (s ∷ ss) = is_whole_struct (is_among front) (slice_get p.structs s) && (not (is_among front s) && structs_in_front p (s ∷ front) ss)
+
+-- The order of the structs has them all, each after those that its fields hold.
+abbrev pub has_struct_order : NamedPackageTree → Bool
+has_struct_order p = nat_eq (length p.struct_order) (length p.structs) && structs_in_front p [] p.struct_order
+
 -- At most 64 arguments and 256 locals.
 abbrev pub has_few_variables : NamedMethodTree → Bool
 has_few_variables m = nat_le (length m.args) 64 && nat_le (length m.locals) 256
@@ -330,4 +339,4 @@ has_few_variables m = nat_le (length m.args) 64 && nat_le (length m.locals) 256
 unfoldable pub well_named : NamedPackageTree → Bool
 well_named p =
     named_consts p 0 p.consts && (named_structs p 0 p.structs && (list_all (named_method p) p.methods
-    && (all_whole p 0 p.structs && (nat_eq (length p.order) (length p.methods) && (calls_in_front p [] p.order && list_all has_few_variables p.methods)))))
+    && (all_whole p 0 p.structs && (nat_eq (length p.order) (length p.methods) && (calls_in_front p [] p.order && (has_struct_order p && list_all has_few_variables p.methods))))))

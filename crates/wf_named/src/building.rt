@@ -1,7 +1,7 @@
 // The nodes and declarations of a resolved package, as they are built and read. A node's parts stand before it, so
 // a walk from a node down to its parts ends.
 
-ghost use Rattle.std.specs.Prelude.{◌≡◌, ◌+◌, ◌<◌, ◌^◌, ◌++◌, [], ◌∷◌, ℕ, List, Some, length, map, slice_get, IfOk, OnOk, OnErr};
+ghost use Rattle.std.specs.Prelude.{◌≡◌, ◌+◌, ◌<◌, ◌++◌, [], ◌∷◌, Some, length, slice_get, IfOk, OnOk, OnErr};
 ghost use Rattle.wf_ast.specs.ParsedParts.{JoinsText};
 ghost use Rattle.wf_named.specs.NamedParts.{NamedParts, exprs_of, stmts_of, named_package, NamedExprParts, NamedStmtParts, NamedConstBelow, NamedStructBelow, NamedMethodBelow};
 ghost use Rattle.wf_named.specs.NamedTrees.{expr_made, stmt_made, const_made, struct_made, method_made, word_at, expr_at, stmt_at};
@@ -29,6 +29,7 @@ pub struct NamedNodes {
     pub(crate) structs: Vec<NamedStruct>,
     pub(crate) methods: Vec<NamedMethod>,
     pub(crate) order: Vec<u32>,
+    pub(crate) struct_order: Vec<u32>,
 }
 
 impl Drop for NamedNodes {
@@ -43,6 +44,7 @@ impl Drop for NamedNodes {
             structs: _,
             methods: _,
             order: _,
+            struct_order: _,
         } = self;
     }
 }
@@ -52,15 +54,15 @@ impl Model for NamedNodes {
 
     ghost Value = { NamedParts };
 
-    ghost view = { λ p. record { package_name = p.package_name.items; texts = p.texts; exprs = p.exprs.items; stmts = p.stmts.items; consts = p.consts.items; statuses = p.statuses.items; structs = p.structs.items; methods = p.methods.items; order = p.order.items } };
+    ghost view = { λ p. record { package_name = p.package_name.items; texts = p.texts; exprs = p.exprs.items; stmts = p.stmts.items; consts = p.consts.items; statuses = p.statuses.items; structs = p.structs.items; methods = p.methods.items; order = p.order.items; struct_order = p.struct_order.items } };
 
-    ghost invariant = { λ p. IsShaped (record { package_name = p.package_name.items; texts = p.texts; exprs = p.exprs.items; stmts = p.stmts.items; consts = p.consts.items; statuses = p.statuses.items; structs = p.structs.items; methods = p.methods.items; order = p.order.items }) };
+    ghost invariant = { λ p. IsShaped (record { package_name = p.package_name.items; texts = p.texts; exprs = p.exprs.items; stmts = p.stmts.items; consts = p.consts.items; statuses = p.statuses.items; structs = p.structs.items; methods = p.methods.items; order = p.order.items; struct_order = p.struct_order.items }) };
 }
 
 impl NamedNodes {
     /// A package of this name with nothing in it.
     pub fn new(alloc: Global, package_name: &[u8]) -> Result<Self, AllocError>
-        ensures { IfOk result (λ p. p ≡ record { package_name = package_name.now; texts = []; exprs = []; stmts = []; consts = []; statuses = []; structs = []; methods = []; order = [] }) }
+        ensures { IfOk result (λ p. p ≡ record { package_name = package_name.now; texts = []; exprs = []; stmts = []; consts = []; statuses = []; structs = []; methods = []; order = []; struct_order = [] }) }
     {
         let package_name = Vec::from_slice(alloc, package_name)?;
         Ok(NamedNodes {
@@ -73,6 +75,7 @@ impl NamedNodes {
             structs: Vec::new(alloc),
             methods: Vec::new(alloc),
             order: Vec::new(alloc),
+            struct_order: Vec::new(alloc),
         })
     }
 
@@ -183,5 +186,13 @@ impl NamedNodes {
         ensures package { named_package self.new ≡ record (named_package self.old) { order = order.items } }
     {
         self.order = order;
+    }
+
+    /// Takes an order of the structs, by number, in place of the one that was there.
+    pub fn set_struct_order(&mut self, struct_order: Vec<u32>)
+        ensures set { self.new ≡ record self.old { struct_order = struct_order.items } }
+        ensures package { named_package self.new ≡ record (named_package self.old) { struct_order = struct_order.items } }
+    {
+        self.struct_order = struct_order;
     }
 }

@@ -5,7 +5,7 @@ ghost use Rattle.std.specs.Prelude.{◌≡◌, true, false, length};
 ghost use Rattle.wf_named.specs.NamedParts.{named_package, NamedExprsOrdered, NamedStmtsOrdered};
 ghost use Rattle.wf_named.specs.WellNamed.{well_named};
 ghost use Rattle.wf_named.specs.ExampleNodes.{counting_nodes};
-ghost use Rattle.wf_named.specs.Examples.{counting, leaving_two, wrong_kind, no_argument, no_struct, no_local, caller_first, cycle, holding_itself};
+ghost use Rattle.wf_named.specs.Examples.{counting, leaving_two, wrong_kind, no_argument, no_struct, no_local, caller_first, cycle, holding_itself, struct_left_out};
 
 /// A package whose numbers all name something, and packages that differ from it in one place.
 pub fn packages_by_the_rules_of_names()
@@ -18,6 +18,7 @@ pub fn packages_by_the_rules_of_names()
     ensures caller_first { well_named caller_first ≡ false }
     ensures cycle { well_named cycle ≡ false }
     ensures holding_itself { well_named holding_itself ≡ false }
+    ensures struct_left_out { well_named struct_left_out ≡ false }
 {}
 
 /// The nodes of that package make its tree, and stand in the order that every package keeps.

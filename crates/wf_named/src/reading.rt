@@ -103,6 +103,13 @@ impl NamedNodes {
         self.order.as_slice()
     }
 
+    /// The numbers of all structs, each after those that its fields hold.
+    pub fn struct_order(&self) -> &[u32]
+        ensures { result.now ≡ self.now.struct_order }
+    {
+        self.struct_order.as_slice()
+    }
+
     /// The package's name.
     pub fn package_name(&self) -> &[u8]
         ensures { result.now ≡ self.now.package_name }

@@ -13,7 +13,7 @@ use Rattle.wf_names_decls.proofs.LabelLaws.{labels-decide}
 use Rattle.wf_names_scopes.specs.UsesFound.{names_found, uses_found}
 use Rattle.wf_names_uses.proofs.UseLaws.{uses_found-decides}
 use Rattle.wf_names_cycles.specs.declared.cycles_found.NamedCycles.{NamedCycles}
-use Rattle.wf_names_cycles.specs.CyclesFound.{DecidesWith, AreStructCycles, AreMethodCycles, IsCallOrder}
+use Rattle.wf_names_cycles.specs.CyclesFound.{DecidesWith, AreStructCycles, AreMethodCycles, IsCallOrder, IsStructOrder}
 use Rattle.wf_names_cycles.proofs.CycleLemmas.{Decides-both, decides-with}
 use Rattle.wf_names_sizes.specs.Deciding.{DecidesBehind}
 use Rattle.wf_names_sizes.specs.Orders.{IsHoldingOrder}
@@ -78,6 +78,9 @@ order-stands d named h =
     let o = h.cycles.order in
     order-holds d h.rows named.cycles.order.items h.made.same (λ s l. o.every s (omega (arith, l, h.made.len))) (λ s k. omega (arith, o.within s k, h.made.len)) o.behind
 
--- The cycles of the methods have an order of the calls.
+-- The cycles of the methods have an order of the calls, and those of the structs an order of the structs.
 pub order-of-calls : (d : Declared) (named : NamedCycles) → AreMethodCycles d named → IsCallOrder d named.cycles.order.items
 order-of-calls d named h = record { rows = h.rows; made = h.made; order_of = h.cycles.order }
+
+pub order-of-structs : (d : Declared) (named : NamedCycles) → AreStructCycles d named → IsStructOrder d named.cycles.order.items
+order-of-structs d named h = record { rows = h.rows; made = h.made; order_of = h.cycles.order }

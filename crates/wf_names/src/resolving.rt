@@ -2,8 +2,8 @@
 
 ghost use Rattle.std.specs.Prelude.{◌≡◌, None, IfErr, IfOk};
 ghost use Rattle.wf_ast.specs.ReadPackage.{IsRead};
-ghost use Rattle.wf_names_scopes.specs.Agreeing.{package_of};
 ghost use Rattle.wf_names.specs.Naming.{AreFindings, IsMisnamed, IsResolved};
+ghost use Rattle.wf_names_rules.specs.Declarations.{declared_in};
 
 use crate::findings::{Findings, look_through};
 use std::alloc::Global;
@@ -18,7 +18,7 @@ fn resolved_nodes(
     parsed: &PackageNodes,
     found: Findings,
 ) -> Result<NamedNodes, NoMemory>
-    requires found { AreFindings (package_of parsed.now) found }
+    requires found { AreFindings (declared_in parsed.now) found }
     requires kept { found.refusal ≡ None }
     ensures { IfOk result (IsResolved parsed.now) }
 {
@@ -26,14 +26,15 @@ fn resolved_nodes(
         refusal: _,
         tables,
         order,
+        struct_order,
     } = found;
-    resolve_package(alloc, parsed, &tables, order)
+    resolve_package(alloc, parsed, &tables, order, struct_order)
 }
 
 // The same as a package that is known to be well named.
 fn resolved(alloc: Global, parsed: &PackageNodes, found: Findings) -> Result<Named, NoMemory>
     requires read { IsRead parsed.now }
-    requires found { AreFindings (package_of parsed.now) found }
+    requires found { AreFindings (declared_in parsed.now) found }
     requires kept { found.refusal ≡ None }
     ensures { IfOk result (IsResolved parsed.now) }
 {
@@ -41,8 +42,8 @@ fn resolved(alloc: Global, parsed: &PackageNodes, found: Findings) -> Result<Nam
     Ok(Named::new(nodes))
 }
 
-/// Resolves the names of a package. `Refused` where it breaks rules of names, N1 to N8, L6 and L7: of all that it breaks
-/// by what has the least place, and of one place by the rule that is named first. `Memory` where memory was refused, or
+/// Resolves the names of a package. `Refused` where it breaks rules of names, N1 to N8, L6 and L7: by the
+/// first refusal of all that it breaks. `Memory` where memory was refused, or
 /// more is named than there are numbers for.
 pub fn resolve(alloc: Global, parsed: Package) -> Result<Named, PhaseFault>
     ensures refused { IfErr result (IsMisnamed parsed) }

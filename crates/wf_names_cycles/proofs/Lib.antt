@@ -1,4 +1,4 @@
 pub mod CycleLemmas
-pub mod HeldLemmas
 pub mod MethodLemmas
 pub mod SectionLemmas
+pub mod StructLemmas

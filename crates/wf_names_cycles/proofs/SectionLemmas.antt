@@ -28,7 +28,7 @@ use Rattle.graphs.proofs.NumberLemmas.{same_number}
 use Rattle.wf_names_scopes.specs.CallRows.{AreRows}
 use Rattle.wf_names_cycles.specs.CyclesFound.{DecidesWith, HoldsItself, Recursion, method_names}
 use Rattle.wf_names_cycles.proofs.CycleLemmas.{DecidesWith-map, decides-with, path-map}
-use Rattle.wf_names_cycles.proofs.HeldLemmas.{position-below, either}
+use Rattle.wf_names_cycles.proofs.StructLemmas.{position-below, either}
 
 -- A call is of a method that the package has.
 module _ (d : Declared) (scope : Scope) (b : ℕ) where

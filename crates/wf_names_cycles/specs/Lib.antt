@@ -1,3 +1,1 @@
 pub mod CyclesFound
-pub mod Held
-pub mod StructRows

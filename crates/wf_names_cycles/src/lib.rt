@@ -4,5 +4,3 @@
 
 pub mod cycles_found;
 pub mod laws;
-pub mod methods;
-pub mod structs;

@@ -16,7 +16,7 @@ use Rattle.wf_names_rules.specs.Found.{RepeatsName, ReservesName, InitializesNam
 use Rattle.wf_names_rules.specs.NameRules as rules
 use Rattle.wf_names_rules.specs.NameRules.{AreApart, DeclarationBreaks, IsMethod, IsRepeated, IsStructure, declared_names, later_of, names_owned, twice, variable_names}
 use Rattle.wf_names_rules.proofs.ListLaws.{doubles-sound, doubles-complete, reserved-sound, reserved-complete, initializes-sound, initializes-complete}
-use Rattle.wf_names_decls.specs.Gathering.{constant_names, struct_names, owned, owned_names}
+use Rattle.wf_names_decls.specs.Gathering.{constant_names, struct_names}
 use Rattle.wf_names_decls.specs.DeclarationPass.{names_judged, declared_twice_in_struct, methods_judged, first_spelt, local_and_constant, locals_and_constants, args_judged, locals_judged, struct_judged, method_judged, statuses_found, constants_found, structs_found, methods_found, names_found, fields_found, variables_found, declarations_found}
 use Rattle.wf_names_decls.proofs.PassLaws.{Each, Adds, adds-then, adds-finds, adds-one, adds-each}
 use Rattle.wf_names_decls.proofs.OwnedLaws.{RepeatsOwned, owned-sound, owned-complete}
@@ -88,12 +88,12 @@ hidden-adds constant locals =
 -- Methods.
 abbrev MethodCause : List (List ℕ) → List Method → Refusal → Type 0
 MethodCause texts ms s =
-    ((RepeatsOwned ms s ⊎ ReservesName texts (owned_names (map owned ms)) s) ⊎ InitializesName texts (owned_names (map owned ms)) s) ⊎ Beyond L6 1024 (owned_names (map owned ms)) s
+    ((RepeatsOwned ms s ⊎ ReservesName texts (map (λ m. m.name) ms) s) ⊎ InitializesName texts (map (λ m. m.name) ms) s) ⊎ Beyond L6 1024 (map (λ m. m.name) ms) s
 
-methods-add : (texts : List (List ℕ)) (ms : List Method) → Adds (λ found. methods_judged texts found (map owned ms)) (MethodCause texts ms)
+methods-add : (texts : List (List ℕ)) (ms : List Method) → Adds (λ found. methods_judged texts found (map (λ m. m.owner) ms) (map (λ m. m.name) ms)) (MethodCause texts ms)
 methods-add texts ms =
-    let names = owned_names (map owned ms) in
-    let doubles : Option Refusal → Option Refusal = λ found. soonest found (declared_twice_in_struct [] (map owned ms)) in
+    let names : List Name = map (λ (m : Method). m.name) ms in
+    let doubles : Option Refusal → Option Refusal = λ found. soonest found (declared_twice_in_struct [] (map (λ m. m.owner) ms) (map (λ m. m.name) ms)) in
     let kept : Option Refusal → Option Refusal = λ found. soonest found (reserved_of texts names) in
     let begun : Option Refusal → Option Refusal = λ found. soonest found (initializes_of texts names) in
     let over : Option Refusal → Option Refusal = λ found. sooner found (beyond L6 1024 names) in
@@ -102,7 +102,7 @@ methods-add texts ms =
     let Begun : Refusal → Type 0 = InitializesName texts names in
     adds-then (λ found. begun (kept (doubles found))) over (λ s. (Doubles s ⊎ Kept s) ⊎ Begun s) (Beyond L6 1024 names)
     (adds-then (λ found. kept (doubles found)) begun (λ s. Doubles s ⊎ Kept s) Begun
-    (adds-then doubles kept Doubles Kept (adds-finds (declared_twice_in_struct [] (map owned ms)) Doubles (owned-sound ms) (owned-complete ms)) (reserved-add texts names))
+    (adds-then doubles kept Doubles Kept (adds-finds (declared_twice_in_struct [] (map (λ m. m.owner) ms) (map (λ m. m.name) ms)) Doubles (owned-sound ms) (owned-complete ms)) (reserved-add texts names))
     (adds-finds (initializes_of texts names) Begun (initializes-sound texts names) (initializes-complete texts names)))
     (beyond-adds L6 1024 names)
 
@@ -220,10 +220,6 @@ borne name [] i x e = absurd (cc e)
 borne name (y ∷ ys) zero x e = let same : y ≡ x = cc e in ap (λ z. Some (name z)) same
 borne name (y ∷ ys) (suc i) x e = borne name ys i x e
 
-pub owned-names : (ms : List Method) → owned_names (map owned ms) ≡ map (λ m. m.name) ms
-owned-names [] = refl
-owned-names (m ∷ ms) = ap (λ names. m.name ∷ names) (owned-names ms)
-
 -- What is declared is among what is declared.
 module _ (d : Declared) where
   abbrev of_fields : List Name
@@ -276,10 +272,10 @@ module _ (d : Declared) where
   misnamed-breaks : (names : List Name) → AreApart d names → ((n : Name) → Named names n → Named (declared_names d) n) → (s : Refusal) → Misnamed d.texts names s → DeclarationBreaks d s
   misnamed-breaks names apart within s c = elim c [ inl r ↦ repeated-breaks names apart s r | inr r ↦ reserved-breaks names within s r ]
 
-  method-of : (i : ℕ) (n : Name) → slice_get (owned_names (map owned d.methods)) i ≡ Some n → Bearer (λ m. m.name) d.methods i n
-  method-of i n e = bearer (λ m. m.name) d.methods i n (let P : List Name → Type 0 = λ names. slice_get names i ≡ Some n in subst P (owned-names d.methods) e)
+  method-of : (i : ℕ) (n : Name) → slice_get (map (λ m. m.name) d.methods) i ≡ Some n → Bearer (λ m. m.name) d.methods i n
+  method-of i n e = bearer (λ m. m.name) d.methods i n e
 
-  initialize-breaks : (s : Refusal) → InitializesName d.texts (owned_names (map owned d.methods)) s → DeclarationBreaks d s
+  initialize-breaks : (s : Refusal) → InitializesName d.texts (map (λ m. m.name) d.methods) s → DeclarationBreaks d s
   initialize-breaks s r =
       let m = method-of r.place r.name r.is in
       let P : Name → Type 0 = λ n. is_initialize (text_of d n.text.0) ≡ true in
@@ -291,7 +287,7 @@ module _ (d : Declared) where
     | inl a ↦ elim a [
       | inl b ↦ elim b [
         | inl r ↦ repeated-breaks (names_owned r.owner d.methods) (rules.methods r.owner) s r.repeats
-        | inr r ↦ reserved-breaks (owned_names (map owned d.methods)) (λ n h. in-methods n (let P : List Name → Type 0 = λ names. Named names n in subst P (owned-names d.methods) h)) s r
+        | inr r ↦ reserved-breaks (map (λ m. m.name) d.methods) in-methods s r
       ]
       | inr r ↦ initialize-breaks s r
     ]
@@ -438,8 +434,7 @@ module _ (d : Declared) where
       | inl h ↦ inl (inl (inl (inr (inr (reserved-of (struct_names d) n h t)))))
       | inr b ↦ elim (either-list (map (λ m. m.name) d.methods) (of_fields d ++ of_methods d) b.0 n b.1) [
         | inl h ↦
-            let P : List Name → Type 0 = λ names. Named names n in
-            inl (inl (inr (inl (inl (inr (reserved-of (owned_names (map owned d.methods)) n (subst P (sym (owned-names d.methods)) h) t))))))
+            inl (inl (inr (inl (inl (inr (reserved-of (map (λ m. m.name) d.methods) n h t))))))
         | inr b ↦ elim (either-list (of_fields d) (of_methods d) b.0 n b.1) [
           | inl h ↦ let r = flat-out (λ s. variable_names s.fields) d.structs h.0 n h.1 in inl (inr (r.place, r.item, (r.is, inr (reserved-of (variable_names r.item.fields) n r.named t))))
           | inr h ↦
@@ -459,8 +454,8 @@ module _ (d : Declared) where
   covers : (s : Refusal) → Known d s → Covered s
   covers s k = (s, (k, is_before-self s))
 
-  method-name-at : (i : ℕ) (m : Method) → slice_get d.methods i ≡ Some m → slice_get (owned_names (map owned d.methods)) i ≡ Some m.name
-  method-name-at i m e = let P : List Name → Type 0 = λ names. slice_get names i ≡ Some m.name in subst P (sym (owned-names d.methods)) (borne (λ m. m.name) d.methods i m e)
+  method-name-at : (i : ℕ) (m : Method) → slice_get d.methods i ≡ Some m → slice_get (map (λ m. m.name) d.methods) i ≡ Some m.name
+  method-name-at = borne (λ m. m.name) d.methods
 
 later-covered : (v c : Name) → is_before (later_of v c) (twice c) ≡ false
 later-covered v c = by_order (is_before (twice v) (twice c)) refl

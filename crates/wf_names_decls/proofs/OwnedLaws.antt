@@ -13,8 +13,6 @@ use Rattle.wf_names_rules.specs.Passes.{refused_if}
 use Rattle.wf_names_rules.specs.Pairs.{Pair, same_pair}
 use Rattle.wf_names_rules.specs.NameRules.{twice, names_owned}
 use Rattle.wf_names_rules.specs.Found.{Finds, RepeatsName}
-use Rattle.wf_names_decls.specs.declared.gathering.Owned.{Owned}
-use Rattle.wf_names_decls.specs.Gathering.{owned}
 use Rattle.wf_names_decls.specs.DeclarationPass.{pair_of, declared_twice_in_struct}
 use Rattle.wf_names_decls.proofs.PassLaws.{refused-cause}
 
@@ -84,67 +82,68 @@ pub pair-only : (ps : List Pair) (p q : Pair) → list_any (same_pair q) (insert
 unfolding has
 pair-only ps p q h = insert-only ps p q h
 
+abbrev key_of : Method → Pair
+key_of m = pair_of m.owner m.name
+
+abbrev repeats_in : List Pair → List Method → List (Option Refusal)
+repeats_in seen ms = declared_twice_in_struct seen (map (λ m. m.owner) ms) (map (λ m. m.name) ms)
+
 -- Two methods of one struct and of one name; `later` is the name of the second one.
-record Two (ms : List Owned) (j : ℕ) (b : Owned) : Type 0 where
+record Two (ms : List Method) (j : ℕ) (b : Method) : Type 0 where
   i : ℕ
-  a : Owned
+  a : Method
   below : i < j
   is : slice_get ms i ≡ Some a
   owner : a.owner.text.0 ≡ b.owner.text.0
   same : a.name.text.0 ≡ b.name.text.0
 
-seen-found : (seen : List Pair) (ms : List Owned) (j : ℕ) (b : Owned) → slice_get ms j ≡ Some b → has seen (pair_of b) ≡ true
-    → slice_get (declared_twice_in_struct seen ms) j ≡ Some (Some (twice b.name))
+seen-found : (seen : List Pair) (ms : List Method) (j : ℕ) (b : Method) → slice_get ms j ≡ Some b → has seen (key_of b) ≡ true
+    → slice_get (repeats_in seen ms) j ≡ Some (Some (twice b.name))
 unfolding has
 seen-found seen [] j b e h = absurd (cc e)
 seen-found seen (m ∷ ms) zero b e h =
     let same : m ≡ b = cc e in
-    let P : Owned → Type 0 = λ x. Some (refused_if (list_any (same_pair (pair_of x)) seen) N2 x.name.at) ≡ Some (Some (twice b.name)) in
+    let P : Method → Type 0 = λ x. Some (refused_if (list_any (same_pair (key_of x)) seen) N2 x.name.at) ≡ Some (Some (twice b.name)) in
     subst P (sym same) (ap (λ t. Some (refused_if t N2 b.name.at)) h)
-seen-found seen (m ∷ ms) (suc j) b e h = seen-found (insert_key same_pair seen (pair_of m)) ms j b e (insert-keeps seen (pair_of m) (pair_of b) h)
+seen-found seen (m ∷ ms) (suc j) b e h = seen-found (insert_key same_pair seen (key_of m)) ms j b e (insert-keeps seen (key_of m) (key_of b) h)
 
-two-found : (seen : List Pair) (ms : List Owned) (i j : ℕ) (a b : Owned) → i < j → slice_get ms i ≡ Some a → slice_get ms j ≡ Some b
-    → pair_of a ≡ pair_of b → slice_get (declared_twice_in_struct seen ms) j ≡ Some (Some (twice b.name))
+two-found : (seen : List Pair) (ms : List Method) (i j : ℕ) (a b : Method) → i < j → slice_get ms i ≡ Some a → slice_get ms j ≡ Some b
+    → key_of a ≡ key_of b → slice_get (repeats_in seen ms) j ≡ Some (Some (twice b.name))
 two-found seen [] i j a b l e f t = absurd (cc e)
 two-found seen (m ∷ ms) i zero a b l e f t = absurd (omega (arith, l))
 two-found seen (m ∷ ms) zero (suc j) a b l e f t =
     let same : m ≡ a = cc e in
-    let pairs : pair_of m ≡ pair_of b = ap pair_of same ∙ t in
-    let P : Pair → Type 0 = λ x. has (insert_key same_pair seen (pair_of m)) x ≡ true in
-    seen-found (insert_key same_pair seen (pair_of m)) ms j b f (subst P pairs (insert-has seen (pair_of m)))
-two-found seen (m ∷ ms) (suc i) (suc j) a b l e f t = two-found (insert_key same_pair seen (pair_of m)) ms i j a b (omega (arith, l)) e f t
+    let pairs : key_of m ≡ key_of b = ap key_of same ∙ t in
+    let P : Pair → Type 0 = λ x. has (insert_key same_pair seen (key_of m)) x ≡ true in
+    seen-found (insert_key same_pair seen (key_of m)) ms j b f (subst P pairs (insert-has seen (key_of m)))
+two-found seen (m ∷ ms) (suc i) (suc j) a b l e f t = two-found (insert_key same_pair seen (key_of m)) ms i j a b (omega (arith, l)) e f t
 
-record Cause (seen : List Pair) (ms : List Owned) (j : ℕ) (s : Refusal) : Type 0 where
-  b : Owned
+record Cause (seen : List Pair) (ms : List Method) (j : ℕ) (s : Refusal) : Type 0 where
+  b : Method
   at : slice_get ms j ≡ Some b
   is : s ≡ twice b.name
-  earlier : (has seen (pair_of b) ≡ true) ⊎ Two ms j b
+  earlier : (has seen (key_of b) ≡ true) ⊎ Two ms j b
 
 inner : (x y : Option Refusal) → Some x ≡ Some y → x ≡ y
 inner x y e = cc e
 
-double-cause : (seen : List Pair) (ms : List Owned) (j : ℕ) (s : Refusal) → slice_get (declared_twice_in_struct seen ms) j ≡ Some (Some s) → Cause seen ms j s
+double-cause : (seen : List Pair) (ms : List Method) (j : ℕ) (s : Refusal) → slice_get (repeats_in seen ms) j ≡ Some (Some s) → Cause seen ms j s
 unfolding has
 double-cause seen [] j s e = absurd (cc e)
 double-cause seen (m ∷ ms) zero s e =
-    let t = list_any (same_pair (pair_of m)) seen in
+    let t = list_any (same_pair (key_of m)) seen in
     let r = refused-cause t N2 m.name.at s (inner (refused_if t N2 m.name.at) (Some s) e) in
     record { b = m; at = refl; is = r.1; earlier = inl r.0 }
 double-cause seen (m ∷ ms) (suc j) s e =
-    let r = double-cause (insert_key same_pair seen (pair_of m)) ms j s e in
+    let r = double-cause (insert_key same_pair seen (key_of m)) ms j s e in
     record { b = r.b; at = r.at; is = r.is; earlier = earlier_in r.b r.earlier }
   where
-    earlier_in : (b : Owned) → (has (insert_key same_pair seen (pair_of m)) (pair_of b) ≡ true) ⊎ Two ms j b → (has seen (pair_of b) ≡ true) ⊎ Two (m ∷ ms) (suc j) b
-    earlier_in b (inl p) = elim (insert-only seen (pair_of m) (pair_of b) p) [
+    earlier_in : (b : Method) → (has (insert_key same_pair seen (key_of m)) (key_of b) ≡ true) ⊎ Two ms j b → (has seen (key_of b) ≡ true) ⊎ Two (m ∷ ms) (suc j) b
+    earlier_in b (inl p) = elim (insert-only seen (key_of m) (key_of b) p) [
       | inl k ↦ inl k
-      | inr t ↦ let parts = pair-parts (pair_of b) (pair_of m) t in inr (record { i = 0; a = m; below = omega arith; is = refl; owner = sym parts.0; same = sym parts.1 })
+      | inr t ↦ let parts = pair-parts (key_of b) (key_of m) t in inr (record { i = 0; a = m; below = omega arith; is = refl; owner = sym parts.0; same = sym parts.1 })
     ]
     earlier_in b (inr q) = inr (record { i = suc q.i; a = q.a; below = omega (arith, q.below); is = q.is; owner = q.owner; same = q.same })
-
--- The names of the methods of one struct.
-names_of : (owner : ℕ) → List Owned → List Name
-names_of owner [] = []
-names_of owner (m ∷ ms) = if is_spelt owner m.owner then m.name ∷ names_of owner ms else names_of owner ms
 
 -- Two names of a list, in order.
 record InOrder (names : List Name) (a b : Name) : Type 0 where
@@ -158,45 +157,43 @@ shift : (c : Bool) (n : Name) (rest : List Name) (b : Name) → (k : ℕ) × (sl
 shift true n rest b f = (suc f.0, f.1)
 shift false n rest b f = f
 
-place-into : (o : ℕ) (ms : List Owned) (j : ℕ) (b : Owned) → slice_get ms j ≡ Some b → is_spelt o b.owner ≡ true → (k : ℕ) × (slice_get (names_of o ms) k ≡ Some b.name)
-unfolding names_of
+place-into : (o : ℕ) (ms : List Method) (j : ℕ) (b : Method) → slice_get ms j ≡ Some b → is_spelt o b.owner ≡ true → (k : ℕ) × (slice_get (names_owned o ms) k ≡ Some b.name)
 place-into o [] j b e t = absurd (cc e)
 place-into o (m ∷ ms) zero b e t =
     let same : m ≡ b = cc e in
-    let spelt : is_spelt o m.owner ≡ true = ap (λ (x : Owned). is_spelt o x.owner) same ∙ t in
-    (0, ap (λ c. slice_get (if c then m.name ∷ names_of o ms else names_of o ms) 0) spelt ∙ ap (λ (x : Owned). Some x.name) same)
-place-into o (m ∷ ms) (suc j) b e t = shift (is_spelt o m.owner) m.name (names_of o ms) b.name (place-into o ms j b e t)
+    let spelt : is_spelt o m.owner ≡ true = ap (λ (x : Method). is_spelt o x.owner) same ∙ t in
+    (0, ap (λ c. slice_get (if c then m.name ∷ names_owned o ms else names_owned o ms) 0) spelt ∙ ap (λ (x : Method). Some x.name) same)
+place-into o (m ∷ ms) (suc j) b e t = shift (is_spelt o m.owner) m.name (names_owned o ms) b.name (place-into o ms j b e t)
 
 shift-two : (c : Bool) (n : Name) (rest : List Name) (a b : Name) → InOrder rest a b → InOrder (if c then n ∷ rest else rest) a b
 shift-two true n rest a b h = record { first = suc h.first; second = suc h.second; order = omega (arith, h.order); at_first = h.at_first; at_second = h.at_second }
 shift-two false n rest a b h = h
 
-two-into : (o : ℕ) (ms : List Owned) (i j : ℕ) (a b : Owned) → i < j → slice_get ms i ≡ Some a → slice_get ms j ≡ Some b → is_spelt o a.owner ≡ true → is_spelt o b.owner ≡ true
-    → InOrder (names_of o ms) a.name b.name
-unfolding names_of
+two-into : (o : ℕ) (ms : List Method) (i j : ℕ) (a b : Method) → i < j → slice_get ms i ≡ Some a → slice_get ms j ≡ Some b → is_spelt o a.owner ≡ true → is_spelt o b.owner ≡ true
+    → InOrder (names_owned o ms) a.name b.name
 two-into o [] i j a b l e f t u = absurd (cc e)
 two-into o (m ∷ ms) i zero a b l e f t u = absurd (omega (arith, l))
 two-into o (m ∷ ms) zero (suc j) a b l e f t u =
     let same : m ≡ a = cc e in
-    let spelt : is_spelt o m.owner ≡ true = ap (λ (x : Owned). is_spelt o x.owner) same ∙ t in
+    let spelt : is_spelt o m.owner ≡ true = ap (λ (x : Method). is_spelt o x.owner) same ∙ t in
     let r = place-into o ms j b f u in
-    let P : Bool → Type 0 = λ c. InOrder (if c then m.name ∷ names_of o ms else names_of o ms) a.name b.name in
-    subst P (sym spelt) (record { first = 0; second = suc r.0; order = omega arith; at_first = ap (λ (x : Owned). Some x.name) same; at_second = r.1 })
-two-into o (m ∷ ms) (suc i) (suc j) a b l e f t u = shift-two (is_spelt o m.owner) m.name (names_of o ms) a.name b.name (two-into o ms i j a b (omega (arith, l)) e f t u)
+    let P : Bool → Type 0 = λ c. InOrder (if c then m.name ∷ names_owned o ms else names_owned o ms) a.name b.name in
+    subst P (sym spelt) (record { first = 0; second = suc r.0; order = omega arith; at_first = ap (λ (x : Method). Some x.name) same; at_second = r.1 })
+two-into o (m ∷ ms) (suc i) (suc j) a b l e f t u = shift-two (is_spelt o m.owner) m.name (names_owned o ms) a.name b.name (two-into o ms i j a b (omega (arith, l)) e f t u)
 
 -- Where a name of one struct's methods comes from, and where two do.
-record From (o : ℕ) (ms : List Owned) (x : Name) : Type 0 where
+record From (o : ℕ) (ms : List Method) (x : Name) : Type 0 where
   j : ℕ
-  b : Owned
+  b : Method
   is : slice_get ms j ≡ Some b
   spelt : is_spelt o b.owner ≡ true
   same : b.name ≡ x
 
-record FromTwo (o : ℕ) (ms : List Owned) (x y : Name) : Type 0 where
+record FromTwo (o : ℕ) (ms : List Method) (x y : Name) : Type 0 where
   i : ℕ
   j : ℕ
-  a : Owned
-  b : Owned
+  a : Method
+  b : Method
   order : i < j
   is_a : slice_get ms i ≡ Some a
   is_b : slice_get ms j ≡ Some b
@@ -205,10 +202,10 @@ record FromTwo (o : ℕ) (ms : List Owned) (x y : Name) : Type 0 where
   same_a : a.name ≡ x
   same_b : b.name ≡ y
 
-from-behind : (o : ℕ) (m : Owned) (ms : List Owned) (x : Name) → From o ms x → From o (m ∷ ms) x
+from-behind : (o : ℕ) (m : Method) (ms : List Method) (x : Name) → From o ms x → From o (m ∷ ms) x
 from-behind o m ms x h = record { j = suc h.j; b = h.b; is = h.is; spelt = h.spelt; same = h.same }
 
-two-behind : (o : ℕ) (m : Owned) (ms : List Owned) (x y : Name) → FromTwo o ms x y → FromTwo o (m ∷ ms) x y
+two-behind : (o : ℕ) (m : Method) (ms : List Method) (x y : Name) → FromTwo o ms x y → FromTwo o (m ∷ ms) x y
 two-behind o m ms x y h = record {
   i = suc h.i;
   j = suc h.j;
@@ -223,18 +220,17 @@ two-behind o m ms x y h = record {
   same_b = h.same_b;
 }
 
-from-step : (o : ℕ) (m : Owned) (ms : List Owned) (rest : List Name) → ((k : ℕ) (x : Name) → slice_get rest k ≡ Some x → From o ms x)
+from-step : (o : ℕ) (m : Method) (ms : List Method) (rest : List Name) → ((k : ℕ) (x : Name) → slice_get rest k ≡ Some x → From o ms x)
     → (c : Bool) → is_spelt o m.owner ≡ c → (k : ℕ) (x : Name) → slice_get (if c then m.name ∷ rest else rest) k ≡ Some x → From o (m ∷ ms) x
 from-step o m ms rest more true t zero x e = record { j = 0; b = m; is = refl; spelt = t; same = cc e }
 from-step o m ms rest more true t (suc k) x e = from-behind o m ms x (more k x e)
 from-step o m ms rest more false t k x e = from-behind o m ms x (more k x e)
 
-from-names : (o : ℕ) (ms : List Owned) (k : ℕ) (x : Name) → slice_get (names_of o ms) k ≡ Some x → From o ms x
-unfolding names_of
+from-names : (o : ℕ) (ms : List Method) (k : ℕ) (x : Name) → slice_get (names_owned o ms) k ≡ Some x → From o ms x
 from-names o [] k x e = absurd (cc e)
-from-names o (m ∷ ms) k x e = from-step o m ms (names_of o ms) (from-names o ms) (is_spelt o m.owner) refl k x e
+from-names o (m ∷ ms) k x e = from-step o m ms (names_owned o ms) (from-names o ms) (is_spelt o m.owner) refl k x e
 
-two-step : (o : ℕ) (m : Owned) (ms : List Owned) (rest : List Name) → ((k : ℕ) (x : Name) → slice_get rest k ≡ Some x → From o ms x)
+two-step : (o : ℕ) (m : Method) (ms : List Method) (rest : List Name) → ((k : ℕ) (x : Name) → slice_get rest k ≡ Some x → From o ms x)
     → ((p q : ℕ) (x y : Name) → p < q → slice_get rest p ≡ Some x → slice_get rest q ≡ Some y → FromTwo o ms x y)
     → (c : Bool) → is_spelt o m.owner ≡ c → (p q : ℕ) (x y : Name) → p < q → slice_get (if c then m.name ∷ rest else rest) p ≡ Some x
     → slice_get (if c then m.name ∷ rest else rest) q ≡ Some y → FromTwo o (m ∷ ms) x y
@@ -257,10 +253,9 @@ two-step o m ms rest one two true t zero (suc q) x y l e f =
 two-step o m ms rest one two true t (suc p) (suc q) x y l e f = two-behind o m ms x y (two p q x y (omega (arith, l)) e f)
 two-step o m ms rest one two false t p q x y l e f = two-behind o m ms x y (two p q x y l e f)
 
-two-names : (o : ℕ) (ms : List Owned) (p q : ℕ) (x y : Name) → p < q → slice_get (names_of o ms) p ≡ Some x → slice_get (names_of o ms) q ≡ Some y → FromTwo o ms x y
-unfolding names_of
+two-names : (o : ℕ) (ms : List Method) (p q : ℕ) (x y : Name) → p < q → slice_get (names_owned o ms) p ≡ Some x → slice_get (names_owned o ms) q ≡ Some y → FromTwo o ms x y
 two-names o [] p q x y l e f = absurd (cc e)
-two-names o (m ∷ ms) p q x y l e f = two-step o m ms (names_of o ms) (from-names o ms) (two-names o ms) (is_spelt o m.owner) refl p q x y l e f
+two-names o (m ∷ ms) p q x y l e f = two-step o m ms (names_owned o ms) (from-names o ms) (two-names o ms) (is_spelt o m.owner) refl p q x y l e f
 
 number-same : (a b : ℕ) → nat_eq a b ≡ true → a ≡ b
 number-same a b h = grind (arith, nat_tests, h)
@@ -271,53 +266,44 @@ number-self a = grind (arith, nat_tests)
 text-same : (a b : TextId) → a.0 ≡ b.0 → a ≡ b
 text-same a b e = let made : ℕ → TextId = λ x. record { 0 = x } in ap made e
 
--- The names that the table speaks of are these.
-names-same : (o : ℕ) (ms : List Method) → names_of o (map owned ms) ≡ names_owned o ms
-unfolding names_of
-names-same o [] = refl
-names-same o (m ∷ ms) = ap (λ rest. if is_spelt o m.owner then m.name ∷ rest else rest) (names-same o ms)
-
 -- A name that an earlier method of its struct has.
 pub record RepeatsOwned (ms : List Method) (s : Refusal) : Type 0 where
   pub owner : ℕ
   pub repeats : RepeatsName (names_owned owner ms) s
 
-pub owned-sound : (ms : List Method) (s : Refusal) → Finds (declared_twice_in_struct [] (map owned ms)) s → RepeatsOwned ms s
+pub owned-sound : (ms : List Method) (s : Refusal) → Finds (declared_twice_in_struct [] (map (λ m. m.owner) ms) (map (λ m. m.name) ms)) s → RepeatsOwned ms s
 unfolding has
 owned-sound ms s f =
-    let r = double-cause [] (map owned ms) f.0 s f.1 in
+    let r = double-cause [] ms f.0 s f.1 in
     elim r.earlier [
       | inl p ↦ absurd (cc p)
       | inr q ↦
           let o = r.b.owner.text.0 in
           let here : nat_eq q.a.owner.text.0 o ≡ true = ap (λ x. nat_eq x o) q.owner ∙ number-self o in
-          let h = two-into o (map owned ms) q.i f.0 q.a r.b q.below q.is r.at here (number-self o) in
-          let P : List Name → Type 0 = λ names. RepeatsName names s in
+          let h = two-into o ms q.i f.0 q.a r.b q.below q.is r.at here (number-self o) in
           record {
             owner = o;
-            repeats =
-                subst P (names-same o ms) (
-                  r.b.name,
-                  (
-                    record { first = h.first; second = h.second; earlier = q.a.name; order = h.order; at_first = h.at_first; at_second = h.at_second; same = text-same q.a.name.text r.b.name.text q.same },
-                    r.is,
-                  ),
-                );
+            repeats = (
+              r.b.name,
+              (
+                record { first = h.first; second = h.second; earlier = q.a.name; order = h.order; at_first = h.at_first; at_second = h.at_second; same = text-same q.a.name.text r.b.name.text q.same },
+                r.is,
+              ),
+            );
           }
     ]
 
-pub owned-complete : (ms : List Method) (s : Refusal) → RepeatsOwned ms s → Finds (declared_twice_in_struct [] (map owned ms)) s
+pub owned-complete : (ms : List Method) (s : Refusal) → RepeatsOwned ms s → Finds (declared_twice_in_struct [] (map (λ m. m.owner) ms) (map (λ m. m.name) ms)) s
 owned-complete ms s h =
     let o = h.owner in
-    let P : List Name → Type 0 = λ names. RepeatsName names s in
-    let back = subst P (sym (names-same o ms)) h.repeats in
+    let back = h.repeats in
     let k = back.1.0 in
-    let two = two-names o (map owned ms) k.first k.second k.earlier back.0 k.order k.at_first k.at_second in
+    let two = two-names o ms k.first k.second k.earlier back.0 k.order k.at_first k.at_second in
     let texts : two.a.name.text.0 ≡ two.b.name.text.0 = ap (λ (n : Name). n.text.0) two.same_a ∙ ap (λ (x : TextId). x.0) k.same ∙ sym (ap (λ (n : Name). n.text.0) two.same_b) in
     let owners : two.a.owner.text.0 ≡ two.b.owner.text.0 = number-same two.a.owner.text.0 o two.spelt_a ∙ sym (number-same two.b.owner.text.0 o two.spelt_b) in
     let pair : ℕ → ℕ → Pair = λ x y. (x, y) in
-    let pairs : pair_of two.a ≡ pair_of two.b = ap (λ x. pair x two.a.name.text.0) owners ∙ ap (λ y. pair two.b.owner.text.0 y) texts in (
+    let pairs : key_of two.a ≡ key_of two.b = ap (λ x. pair x two.a.name.text.0) owners ∙ ap (λ y. pair two.b.owner.text.0 y) texts in (
       two.j,
-      two-found [] (map owned ms) two.i two.j two.a two.b two.order two.is_a two.is_b pairs
+      two-found [] ms two.i two.j two.a two.b two.order two.is_a two.is_b pairs
           ∙ ap (λ (n : Name). Some (Some (twice n))) two.same_b ∙ ap (λ x. Some (Some x)) (sym back.1.1),
     )

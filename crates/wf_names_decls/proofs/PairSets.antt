@@ -1,17 +1,18 @@
 -- Sets of pairs, which grow by a pair at a time.
-use Rattle.std.proofs.Common.{◌≡◌, ℕ, ◌+◌, ◌<◌, Bool, true, false, not, cond, List, length, drop, slice_index_or, Option, refl, sym, ap, ◌∙◌, subst, inl, inr}
+use Rattle.std.proofs.Common.{◌≡◌, ◌⊎◌, ℕ, ◌+◌, ◌<◌, ◌≤◌, min, Bool, true, false, not, cond, List, [], ◌∷◌, length, drop, slice_index_or, Option, refl, sym, ap, ◌∙◌, subst, inl, inr, arith}
 use Rattle.std.specs.List.{list_any}
 use Rattle.std.specs.Ordering.{is_eq}
 use Rattle.indexmap.specs.IndexSet.{insert_key}
 use Rattle.wf_text.specs.declared.rules.Rule.TheVariants.{N2}
 use Rattle.wf_text.specs.declared.rules.Refusal.{Refusal}
 use Rattle.wf_text.specs.Precedence.{sooner, soonest}
+use Rattle.wf_ast.specs.declared.parsed.Name.{Name}
 use Rattle.wf_names_rules.specs.Passes.{refused_if}
 use Rattle.wf_names_rules.specs.Pairs.{Pair, same_pair, pair_cmp}
 use Rattle.wf_names_rules.proofs.PairLemmas.{pair_ties, alike}
 use Rattle.wf_names_rules.proofs.WalkLemmas.{drop-one}
-use Rattle.wf_names_decls.specs.declared.gathering.Owned.{Owned}
 use Rattle.wf_names_decls.specs.DeclarationPass.{pair_of, declared_twice_in_struct}
+use Rattle.wf_names_decls.proofs.DeclSteps.{drop-over}
 use Rattle.wf_names_decls.proofs.OwnedLaws.{pair-self, pair-keeps, pair-has, pair-only}
 
 -- A set that has the pairs of a list has those of the list with one more after it is put.
@@ -41,14 +42,35 @@ set-more old new ps key has put p = put p ∙ ap (λ b. cond b true (old p)) (pa
 
 -- One more method of a pass that looks for those that are declared twice: the set has the pairs before it, `fresh` tells that its
 -- own isn't among them, and `next` is the first refusal after it.
-pub pass-step : (old new : Pair → Bool) (found next item : Option Refusal) (ps : List Pair) (ms : List Owned) (i : ℕ) (d : Owned) (fresh : Bool) (r : Option Refusal) → i < length ms
-    → ((p : Pair) → old p ≡ list_any (same_pair p) ps) → ((p : Pair) → new p ≡ cond (is_eq (pair_cmp (pair_of (slice_index_or ms i d)) p)) true (old p))
-    → fresh ≡ not (old (pair_of (slice_index_or ms i d))) → ((seen : Bool) → fresh ≡ not seen → item ≡ refused_if seen N2 (slice_index_or ms i d).name.at) → next ≡ sooner found item
-    → soonest found (declared_twice_in_struct ps (drop i ms)) ≡ r
-    → (qs : List Pair) × ((p : Pair) → new p ≡ list_any (same_pair p) qs) × (soonest next (declared_twice_in_struct qs (drop (i + 1) ms)) ≡ r)
-pass-step old new found next item ps ms i d fresh r h has put added judged joined all =
-    let m = slice_index_or ms i d in
-    let key : Pair = pair_of m in
-    let rest = declared_twice_in_struct (insert_key same_pair ps key) (drop (i + 1) ms) in
-    let is : item ≡ refused_if (list_any (same_pair key) ps) N2 m.name.at = judged (list_any (same_pair key) ps) (added ∙ ap not (has key)) in
-    (insert_key same_pair ps key, set-more old new ps key has put, ap (λ o. soonest o rest) (joined ∙ ap (sooner found) is) ∙ sym (ap (λ xs. soonest found (declared_twice_in_struct ps xs)) (drop-one ms i d h)) ∙ all)
+pub pass-step : (old new : Pair → Bool) (found next item : Option Refusal) (ps : List Pair) (owners names : List Name) (i : ℕ) (owner name : Name) (fresh : Bool) (r : Option Refusal)
+    → i < length owners → i < length names → owner ≡ slice_index_or owners i owner → name ≡ slice_index_or names i name
+    → ((p : Pair) → old p ≡ list_any (same_pair p) ps) → ((p : Pair) → new p ≡ cond (is_eq (pair_cmp (pair_of owner name) p)) true (old p))
+    → fresh ≡ not (old (pair_of owner name)) → ((seen : Bool) → fresh ≡ not seen → item ≡ refused_if seen N2 name.at) → next ≡ sooner found item
+    → soonest found (declared_twice_in_struct ps (drop i owners) (drop i names)) ≡ r
+    → (qs : List Pair) × ((p : Pair) → new p ≡ list_any (same_pair p) qs) × (soonest next (declared_twice_in_struct qs (drop (i + 1) owners) (drop (i + 1) names)) ≡ r)
+pass-step old new found next item ps owners names i owner name fresh r h k owner_is name_is has put added judged joined all =
+    let key : Pair = pair_of owner name in
+    let rest = declared_twice_in_struct (insert_key same_pair ps key) (drop (i + 1) owners) (drop (i + 1) names) in
+    let is : item ≡ refused_if (list_any (same_pair key) ps) N2 name.at = judged (list_any (same_pair key) ps) (added ∙ ap not (has key)) in
+    let some_owner : drop i owners ≡ owner ∷ drop (i + 1) owners = drop-one owners i owner h ∙ ap (λ x. x ∷ drop (i + 1) owners) (sym owner_is) in
+    let some_name : drop i names ≡ name ∷ drop (i + 1) names = drop-one names i name k ∙ ap (λ x. x ∷ drop (i + 1) names) (sym name_is) in (
+      insert_key same_pair ps key,
+      set-more old new ps key has put,
+      ap (λ o. soonest o rest) (joined ∙ ap (sooner found) is)
+          ∙ sym (ap (λ xs. soonest found (declared_twice_in_struct ps xs (drop i names))) some_owner ∙ ap (λ xs. soonest found (declared_twice_in_struct ps (owner ∷ drop (i + 1) owners) xs)) some_name) ∙ all,
+    )
+
+-- After the last method.
+no-name : (ps : List Pair) (owners : List Name) → declared_twice_in_struct ps owners [] ≡ []
+no-name ps [] = refl
+no-name ps (owner ∷ owners) = refl
+
+pub pass-end : (ps : List Pair) (owners names : List Name) (i : ℕ) → i ≡ min (length owners) (length names) → declared_twice_in_struct ps (drop i owners) (drop i names) ≡ []
+pass-end ps owners names i h =
+    elim (short (length owners) (length names) h) [
+      | inl l ↦ ap (λ xs. declared_twice_in_struct ps xs (drop i names)) (drop-over owners i l)
+      | inr l ↦ ap (declared_twice_in_struct ps (drop i owners)) (drop-over names i l) ∙ no-name ps (drop i owners)
+    ]
+  where
+    short : (a b : ℕ) → i ≡ min a b → (a ≤ i) ⊎ (b ≤ i)
+    short a b e = grind (arith, e)

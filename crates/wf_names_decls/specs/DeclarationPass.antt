@@ -10,8 +10,7 @@ use Rattle.wf_names_rules.specs.Declarations.{Declared, Method, Structure, is_sp
 use Rattle.wf_names_rules.specs.NameRules.{later_of, variable_names}
 use Rattle.wf_names_rules.specs.Passes.{refused_if, doubles_of, reserved_of, initializes_of, beyond}
 use Rattle.wf_names_rules.specs.Pairs.{Pair, same_pair}
-use Rattle.wf_names_decls.specs.declared.gathering.Owned.{Owned}
-use Rattle.wf_names_decls.specs.Gathering.{constant_names, struct_names, owned_methods, owned_names}
+use Rattle.wf_names_decls.specs.Gathering.{constant_names, struct_names, method_names, owner_names}
 
 -- Names that an earlier one of the list has too.
 abbrev pub declared_twice : List Name → List (Option Refusal)
@@ -21,23 +20,24 @@ declared_twice names = doubles_of [] names
 abbrev pub names_judged : (texts : List (List ℕ)) → Option Refusal → List Name → Option Refusal
 names_judged texts found names = soonest (soonest found (declared_twice names)) (reserved_of texts names)
 
--- Methods of a struct that are declared twice; `seen` are those before it, by their struct's name and their own, each
--- once.
-abbrev pub pair_of : Owned → Pair
-pair_of m = (m.owner.text.0, m.name.text.0)
+-- Methods of a struct that are declared twice, by the names of their structs and their own; `seen` are those before them,
+-- each once.
+abbrev pub pair_of : (owner name : Name) → Pair
+pair_of owner name = (owner.text.0, name.text.0)
 
-abbrev pub declared_twice_in_struct : (seen : List Pair) → List Owned → List (Option Refusal)
-declared_twice_in_struct seen [] = []
-declared_twice_in_struct seen (m ∷ ms) = refused_if (list_any (same_pair (pair_of m)) seen) N2 m.name.at ∷ declared_twice_in_struct (insert_key same_pair seen (pair_of m)) ms
+abbrev pub declared_twice_in_struct : (seen : List Pair) → (owners names : List Name) → List (Option Refusal)
+declared_twice_in_struct seen [] names = []
+declared_twice_in_struct seen (owner ∷ owners) [] = []
+declared_twice_in_struct seen (owner ∷ owners) (name ∷ names) =
+    refused_if (list_any (same_pair (pair_of owner name)) seen) N2 name.at ∷ declared_twice_in_struct (insert_key same_pair seen (pair_of owner name)) owners names
 
 -- The method after the 1,024 that a package may have.
 abbrev pub too_many_methods : List Name → Option Refusal
 too_many_methods methods = beyond L6 1024 methods
 
-abbrev pub methods_judged : (texts : List (List ℕ)) → Option Refusal → List Owned → Option Refusal
-methods_judged texts found ms =
-    sooner (soonest (soonest (soonest found (declared_twice_in_struct [] ms)) (reserved_of texts (owned_names ms))) (initializes_of texts (owned_names ms)))
-    (too_many_methods (owned_names ms))
+abbrev pub methods_judged : (texts : List (List ℕ)) → Option Refusal → (owners names : List Name) → Option Refusal
+methods_judged texts found owners names =
+    sooner (soonest (soonest (soonest found (declared_twice_in_struct [] owners names)) (reserved_of texts names)) (initializes_of texts names)) (too_many_methods names)
 
 -- The name of the list that has this text first.
 abbrev pub first_spelt : List Name → ℕ → Option Name
@@ -84,7 +84,7 @@ abbrev pub structs_found : Declared → Option Refusal → Option Refusal
 structs_found d found = names_judged d.texts found (struct_names d)
 
 abbrev pub methods_found : Declared → Option Refusal → Option Refusal
-methods_found d found = methods_judged d.texts found (owned_methods d)
+methods_found d found = methods_judged d.texts found (owner_names d) (method_names d)
 
 abbrev pub names_found : Declared → Option Refusal → Option Refusal
 names_found d found = methods_found d (structs_found d (constants_found d (statuses_found d found)))

@@ -5,65 +5,21 @@ ghost use Rattle.wf_ast.specs.ParsedTrees.{expr_trees, stmt_trees, decl_trees, d
 ghost use Rattle.wf_ast.specs.ParsedParts.{BlockBelow, DeclParts};
 ghost use Rattle.wf_names_rules.specs.Declarations.{declared, structs_of, methods_of, locals_of};
 ghost use Rattle.wf_names_rules.specs.NameRules.{variable_names};
-ghost use Rattle.wf_names_decls.specs.Gathering.{constant_names, struct_names, method_names, field_names as names_of_fields};
+ghost use Rattle.wf_names_decls.specs.Gathering.{constant_names, field_names as names_of_fields};
 ghost use Rattle.wf_names_decls.specs.NameLists.{AreNameLists};
 ghost use Rattle.wf_names_decls.specs.ConstantNames.{constant_by, AreConstantPlaces};
-ghost use Rattle.wf_names_decls.specs.DeclarationPass.{statuses_found, constants_found, structs_found, methods_found, names_judged, args_judged, locals_judged, struct_judged, method_judged, names_found, fields_found, variables_found, declarations_found};
+ghost use Rattle.wf_names_decls.specs.DeclarationPass.{names_judged, args_judged, locals_judged, struct_judged, method_judged, names_found, fields_found, variables_found, declarations_found};
 
-use crate::gathering::{NameLists, field_names, local_names, owned_methods, status_names};
+use crate::gathering::{NameLists, field_names, local_names};
 use crate::judging::{
     Constants, declared_twice, judge_args, judge_locals, judge_methods, judge_names,
 };
 use std::alloc::Global;
 use wf_ast::PackageNodes;
-use wf_ast::parsed::{Block, Decl, Field, Name};
+use wf_ast::parsed::{Block, Decl, Field};
 use wf_names_rules::tables::Variables;
 use wf_text::faults::NoMemory;
 use wf_text::found::Found;
-
-fn judge_statuses(alloc: Global, found: &mut Found, parsed: &PackageNodes) -> Result<(), NoMemory>
-    ensures { OnOk result (found.new ≡ statuses_found (declared parsed.now.texts (decl_trees parsed.now.exprs parsed.now.stmts parsed.now.decls)) found.old) }
-{
-    let names = status_names(alloc, parsed)?;
-    declared_twice(alloc, found, names.as_slice())
-}
-
-fn judge_constants(
-    alloc: Global,
-    found: &mut Found,
-    parsed: &PackageNodes,
-    names: &[Name],
-) -> Result<(), NoMemory>
-    requires { names.now ≡ constant_names (declared parsed.now.texts (decl_trees parsed.now.exprs parsed.now.stmts parsed.now.decls)) }
-    ensures { OnOk result (found.new ≡ constants_found (declared parsed.now.texts (decl_trees parsed.now.exprs parsed.now.stmts parsed.now.decls)) found.old) }
-{
-    judge_names(alloc, found, parsed, names)
-}
-
-fn judge_structs(
-    alloc: Global,
-    found: &mut Found,
-    parsed: &PackageNodes,
-    names: &[Name],
-) -> Result<(), NoMemory>
-    requires { names.now ≡ struct_names (declared parsed.now.texts (decl_trees parsed.now.exprs parsed.now.stmts parsed.now.decls)) }
-    ensures { OnOk result (found.new ≡ structs_found (declared parsed.now.texts (decl_trees parsed.now.exprs parsed.now.stmts parsed.now.decls)) found.old) }
-{
-    judge_names(alloc, found, parsed, names)
-}
-
-fn judge_all_methods(
-    alloc: Global,
-    found: &mut Found,
-    parsed: &PackageNodes,
-    names: &[Name],
-) -> Result<(), NoMemory>
-    requires { names.now ≡ method_names (declared parsed.now.texts (decl_trees parsed.now.exprs parsed.now.stmts parsed.now.decls)) }
-    ensures { OnOk result (found.new ≡ methods_found (declared parsed.now.texts (decl_trees parsed.now.exprs parsed.now.stmts parsed.now.decls)) found.old) }
-{
-    let methods = owned_methods(alloc, parsed)?;
-    judge_methods(alloc, found, parsed, methods.as_slice(), names)
-}
 
 // The names of statuses, constants, structs and methods.
 fn judge_package(
@@ -75,10 +31,16 @@ fn judge_package(
     requires { AreNameLists (declared parsed.now.texts (decl_trees parsed.now.exprs parsed.now.stmts parsed.now.decls)) names.now }
     ensures { OnOk result (found.new ≡ names_found (declared parsed.now.texts (decl_trees parsed.now.exprs parsed.now.stmts parsed.now.decls)) found.old) }
 {
-    judge_statuses(alloc, found, parsed)?;
-    judge_constants(alloc, found, parsed, names.constants.as_slice())?;
-    judge_structs(alloc, found, parsed, names.structs.as_slice())?;
-    judge_all_methods(alloc, found, parsed, names.methods.as_slice())
+    declared_twice(alloc, found, names.statuses.as_slice())?;
+    judge_names(alloc, found, parsed, names.constants.as_slice())?;
+    judge_names(alloc, found, parsed, names.structs.as_slice())?;
+    judge_methods(
+        alloc,
+        found,
+        parsed,
+        names.owners.as_slice(),
+        names.methods.as_slice(),
+    )
 }
 
 fn judge_fields(

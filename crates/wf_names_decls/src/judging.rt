@@ -4,10 +4,8 @@ ghost use Rattle.std.specs.Prelude.{◌≡◌, [], OnOk};
 ghost use Rattle.wf_text.specs.Precedence.{soonest};
 ghost use Rattle.wf_names_rules.specs.NameRules.{later_of as later_named};
 ghost use Rattle.wf_names_decls.specs.DeclarationPass.{names_judged, declared_twice as are_declared_twice, declared_twice_in_struct as are_twice_in_struct, too_many_methods as methods_too_many, methods_judged, local_and_constant as is_local_and_constant, locals_and_constants as are_locals_and_constants, too_many_args as args_too_many, args_judged, too_many_locals as locals_too_many, locals_judged};
-ghost use Rattle.wf_names_decls.specs.Gathering.{owned_names};
 ghost use Rattle.wf_names_decls.specs.ConstantNames.{constant_by};
 
-use crate::gathering::Owned;
 use std::alloc::Global;
 use std::collections::BTreeSet;
 use wf_ast::parsed::Name;
@@ -49,14 +47,15 @@ pub(crate) fn judge_names(
 fn declared_twice_in_struct(
     alloc: Global,
     found: &mut Found,
-    methods: &[Owned],
+    owners: &[Name],
+    names: &[Name],
 ) -> Result<(), NoMemory>
-    ensures { OnOk result (found.new ≡ soonest found.old (are_twice_in_struct [] methods.now)) }
+    ensures { OnOk result (found.new ≡ soonest found.old (are_twice_in_struct [] owners.now names.now)) }
 {
     let mut seen: BTreeSet<(u32, u32)> = BTreeSet::new(alloc);
-    for method in methods {
-        let fresh = seen.insert((method.owner.text.0, method.name.text.0))?;
-        found.refuse(twice(fresh, method.name));
+    for (owner, name) in owners.iter().zip(names) {
+        let fresh = seen.insert((owner.text.0, name.text.0))?;
+        found.refuse(twice(fresh, *name));
     }
     Ok(())
 }
@@ -68,19 +67,18 @@ fn too_many_methods(names: &[Name]) -> Option<Refusal>
     beyond(names, Rule::L6, 1024)
 }
 
-/// The methods of a package, and their names alone: those of a struct that are declared twice, reserved names,
-/// `initialize`, and the one after the 1,024 that a package may have.
+/// The methods of a package, by the names of their structs and their own: those of a struct that are declared twice,
+/// reserved names, `initialize`, and the one after the 1,024 that a package may have.
 pub(crate) fn judge_methods(
     alloc: Global,
     found: &mut Found,
     parsed: &PackageNodes,
-    methods: &[Owned],
+    owners: &[Name],
     names: &[Name],
 ) -> Result<(), NoMemory>
-    requires { names.now ≡ owned_names methods.now }
-    ensures { OnOk result (found.new ≡ methods_judged parsed.now.texts found.old methods.now) }
+    ensures { OnOk result (found.new ≡ methods_judged parsed.now.texts found.old owners.now names.now) }
 {
-    declared_twice_in_struct(alloc, found, methods)?;
+    declared_twice_in_struct(alloc, found, owners, names)?;
     reserved(found, parsed, names);
     initializes(found, parsed, names);
     found.refuse(too_many_methods(names));

@@ -4,9 +4,9 @@ use Rattle.std.specs.List.{AllByRecursion, find, list_any}
 use Rattle.std.specs.Str.{bytes_eq}
 use Rattle.std.proofs.lemmas.Bool.Decides.{nat_tests}
 use Rattle.wf_ast.specs.ParsedTree as tree
-use Rattle.wf_ast.specs.ParsedTree.{ExprTree, GivenTrees}
+use Rattle.wf_ast.specs.ParsedTree.{GivenTrees}
 use Rattle.wf_named.specs.NamedTree.{NamedArgTrees}
-use Rattle.wf_named.specs.WellNamed.{Scope as NamedScope, count_args, named_expr}
+use Rattle.wf_named.specs.WellNamed.{NamedScope as NamedScope, count_args, named_expr}
 use Rattle.wf_names_rules.specs.Declarations.{is_spelt}
 use Rattle.wf_names_rules.specs.Meanings.{GivenValue, given_values}
 use Rattle.wf_names_resolve.specs.Standing.{Standing}

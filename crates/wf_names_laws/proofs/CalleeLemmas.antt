@@ -17,11 +17,11 @@ use Rattle.wf_ast.specs.declared.parsed.Root.{Root}
 use Rattle.wf_ast.specs.declared.parsed.Root.TheVariants as roots
 use Rattle.wf_ast.specs.declared.parsed.WrittenMark.{WrittenMark}
 use Rattle.wf_ast.specs.ParsedTree as tree
-use Rattle.wf_ast.specs.ParsedTree.{GivenTrees, CallTree, TypeTree}
+use Rattle.wf_ast.specs.ParsedTree.{GivenTrees}
 use Rattle.wf_named.specs.declared.nodes.NamedCallee.TheVariants as named_callees
 use Rattle.wf_named.specs.declared.nodes.Variable.TheVariants as variables
 use Rattle.wf_named.specs.NamedTree.{NamedMethodTree, struct_type}
-use Rattle.wf_named.specs.WellNamed.{Scope as NamedScope, type_of_variable, kind_of, has_kind, args_of_own, args_of_sub, args_wanted, is_wanted, count_args, named_args, named_call}
+use Rattle.wf_named.specs.WellNamed.{NamedScope as NamedScope, type_of_variable, kind_of, has_kind, args_of_own, args_of_sub, args_wanted, is_wanted, count_args, named_args, named_call}
 use Rattle.wf_names_rules.specs.declared.callees.Callee.{Callee}
 use Rattle.wf_names_rules.specs.declared.callees.Callee.TheVariants as callees
 use Rattle.wf_names_rules.specs.declared.sorts.Sort.{Sort}

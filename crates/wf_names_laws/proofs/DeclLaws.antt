@@ -4,12 +4,12 @@ use Rattle.std.specs.List.{AllByRecursion, flat_map, list_all}
 use Rattle.wf_text.specs.Precedence.{Decides}
 use Rattle.wf_ast.specs.declared.parsed.WrittenMark.{WrittenMark}
 use Rattle.wf_ast.specs.ParsedTree as tree
-use Rattle.wf_ast.specs.ParsedTree.{TypeTree, ResultTree, BlockTree, StmtTree, DeclTree}
+use Rattle.wf_ast.specs.ParsedTree.{ResultTree, BlockTree, StmtTree, DeclTree}
 use Rattle.wf_named.specs.NamedTree.{VarTree, NamedStructTree, NamedPackageTree}
-use Rattle.wf_named.specs.WellNamed.{Scope as NamedScope, named_expr, named_type, named_block, scope_of_const, named_consts, scope_of_struct, named_structs, scope_of_method, named_result, named_method}
+use Rattle.wf_named.specs.WellNamed.{NamedScope as NamedScope, named_expr, named_type, named_block, scope_of_const, named_consts, scope_of_struct, named_structs, scope_of_method, named_result, named_method}
 use Rattle.wf_names_rules.specs.Declarations.{Variable, Constant, Structure, Method, Declared, declared, as_variable, local_of, locals_of}
 use Rattle.wf_names_rules.specs.Uses as uses
-use Rattle.wf_names_rules.specs.Uses.{Use, Scope, Site, uses_of, type_uses, stmt_uses, block_uses, result_uses, variable_uses, method_uses, constant_scope, struct_scope, method_scope, sites_in, constant_sites, struct_sites, method_sites, sites}
+use Rattle.wf_names_rules.specs.Uses.{Use, Scope, uses_of, type_uses, stmt_uses, block_uses, result_uses, variable_uses, method_uses, constant_scope, struct_scope, method_scope, sites_in, constant_sites, struct_sites, method_sites, sites}
 use Rattle.wf_names_rules.specs.NameRules.{Breaks}
 use Rattle.wf_names_uses.proofs.FoundLemmas.{both-so}
 use Rattle.wf_names_resolve.specs.Standing.{standing_at}
@@ -72,12 +72,12 @@ known-longer : (all : List Constant) (known : List Variable) (c : Constant) (cs 
     → (known ++ as_variable c ∷ []) ++ map as_variable cs ≡ map as_variable all
 known-longer all known c cs e = append_assoc known (as_variable c ∷ []) (map as_variable cs) ∙ e
 
-module _ (name : List ℕ) (texts : List (List ℕ)) (decls : List DeclTree) (order : List ℕ) (h : Decides (Breaks (declared texts decls)) None) where
+module _ (name : List ℕ) (texts : List (List ℕ)) (decls : List DeclTree) (order struct_order : List ℕ) (h : Decides (Breaks (declared texts decls)) None) where
   abbrev given : Declared
   given = declared texts decls
 
   abbrev made : NamedPackageTree
-  made = resolved_by given name decls order
+  made = resolved_by given name decls order struct_order
 
   all-kept : AreKeptSites given (sites given)
   all-kept = sites-kept given h
@@ -111,7 +111,7 @@ module _ (name : List ℕ) (texts : List (List ℕ)) (decls : List DeclTree) (or
       let scope = constant_scope known in
       let s = scope_of_const made n in
       let k = standing_at given scope in
-      let is : IsScopeOf given scope s = subst (λ m. IsScopeOf given scope (scope_of_const made m)) long (const-known name texts decls order h known (c ∷ cs) whole) in
+      let is : IsScopeOf given scope s = subst (λ m. IsScopeOf given scope (scope_of_const made m)) long (const-known name texts decls order struct_order h known (c ∷ cs) whole) in
       let here = scope-kept given scope (type_uses c.of ++ uses_of c.value) (all-front (IsKeptSite given) (sites_in scope (type_uses c.of ++ uses_of c.value)) (constant_sites (known ++ as_variable c ∷ []) cs) a) in
       both-so (named_type s (resolved_type k c.of) && named_expr s (resolved_expr k c.value)) (named_consts made (suc n) (resolved_consts given (known ++ as_variable c ∷ []) cs))
       (both-so (named_type s (resolved_type k c.of)) (named_expr s (resolved_expr k c.value))
@@ -135,7 +135,7 @@ module _ (name : List ℕ) (texts : List (List ℕ)) (decls : List DeclTree) (or
   struct-named : (n : ℕ) (x : NamedStructTree) → slice_get made.structs n ≡ Some x → list_all (λ (v : VarTree). named_type (scope_of_struct made n) v.of) x.fields ≡ true
   struct-named n x e =
       let r = struct-made given decls n x e in
-      let is = struct-known name texts decls order h n r.it r.is in
+      let is = struct-known name texts decls order struct_order h n r.it r.is in
       let scope = struct_scope given r.it in
       ap (λ (y : NamedStructTree). list_all (λ (v : VarTree). named_type (scope_of_struct made n) v.of) y.fields) r.same
       ∙ variables-named given scope (scope_of_struct made n) is r.it.fields (struct-types-kept n r.it r.is)
@@ -150,7 +150,7 @@ module _ (name : List ℕ) (texts : List (List ℕ)) (decls : List DeclTree) (or
       let s = scope_of_method made x in
       let scope = method_scope given m in
       let k = standing_at given scope in
-      let is = method-known name texts decls order h mark m in
+      let is = method-known name texts decls order struct_order h mark m in
       let kept = method-kept n m e in
       let inner = all-behind (IsKept given scope) (variable_uses m.args) (result_uses m.result ++ block_uses m.body) kept.1 in
       let body = all-behind (IsKept given scope) (result_uses m.result) (block_uses m.body) inner in

@@ -6,7 +6,7 @@ use Rattle.std.proofs.lemmas.Bool.Decides.{nat_tests}
 use Rattle.std.proofs.lemmas.Option.{slice_get_within}
 use Rattle.wf_ast.specs.ParsedTree as tree
 use Rattle.wf_ast.specs.ParsedTree.{ExprTree, PartTree, LinkTrees, GivenTrees, CallTree, TypeTree, BoundsTree}
-use Rattle.wf_named.specs.WellNamed.{Scope as NamedScope, is_there, named_expr, named_part, named_links, named_call, named_type, named_bounds}
+use Rattle.wf_named.specs.WellNamed.{NamedScope as NamedScope, is_there, named_expr, named_part, named_links, named_call, named_type, named_bounds}
 use Rattle.wf_names_rules.specs.Declarations.{Declared, is_spelt, text_of, status_named, struct_named}
 use Rattle.wf_names_rules.specs.Uses as uses
 use Rattle.wf_names_rules.specs.Uses.{Use, Scope, receiver_uses, uses_of, part_uses, link_uses, given_uses, call_uses, type_uses, bounds_uses}

@@ -118,17 +118,36 @@ there [] a h = absurd (omega (arith, h))
 there (x ∷ xs) zero h = (x, refl)
 there (x ∷ xs) (suc a) h = there xs a (omega (arith, h))
 
-not-true : (t : Bool) → (t ≡ true → ⊥) → not t ≡ true
+pub not-true : (t : Bool) → (t ≡ true → ⊥) → not t ≡ true
 not-true true h = absurd (h refl)
 not-true false h = refl
 
-module _ (texts : List (List ℕ)) (decls : List DeclTree) (name : List ℕ) (order : List ℕ) (rows : List (List ℕ))
+module _ (rows : List (List ℕ)) (order : List ℕ) (ordered : IsOrder rows order) where
+  -- No number of an order stands in it twice, and all that it goes to stand before it.
+  pub twice : (front back : List ℕ) (a : ℕ) → order ≡ front ++ a ∷ back → holds front a ≡ true → ⊥
+  twice front back a split h =
+      let seam : slice_get order (length front) ≡ Some a = ap (λ l. slice_get l (length front)) split ∙ slice_get-seam front a back in
+      let whole : take (length front) order ≡ front = ap (take (length front)) split ∙ take-seam front (a ∷ back) in
+      once-apart order (length front) a ordered.once seam (ap (λ l. holds l a) whole ∙ h)
+
+  pub placed : (front back : List ℕ) (a : ℕ) → order ≡ front ++ a ∷ back → a < length rows
+  placed front back a split =
+      let seam : slice_get order (length front) ≡ Some a = ap (λ l. slice_get l (length front)) split ∙ slice_get-seam front a back in
+      ordered.within a (holds_at order (length front) a seam)
+
+  pub behind : (front back : List ℕ) (a b : ℕ) → order ≡ front ++ a ∷ back → goes rows a b ≡ true → holds front b ≡ true
+  behind front back a b split g =
+      let seam : slice_get order (length front) ≡ Some a = ap (λ l. slice_get l (length front)) split ∙ slice_get-seam front a back in
+      let whole : take (length front) order ≡ front = ap (take (length front)) split ∙ take-seam front (a ∷ back) in
+      sym (ap (λ l. holds l b) whole) ∙ ordered.behind (length front) a b seam g
+
+module _ (texts : List (List ℕ)) (decls : List DeclTree) (name : List ℕ) (order struct_order : List ℕ) (rows : List (List ℕ))
     (made : AreRows (declared texts decls) rows (length (methods_of decls))) (ordered : IsOrder rows order) where
   abbrev d : Declared
   d = declared texts decls
 
   abbrev p : NamedPackageTree
-  p = resolved_package name texts decls order
+  p = resolved_package name texts decls order struct_order
 
   pub order-long : nat_eq (length p.order) (length p.methods) ≡ true
   order-long =
@@ -139,21 +158,13 @@ module _ (texts : List (List ℕ)) (decls : List DeclTree) (name : List ℕ) (or
   method-front : AreOpen d → (front back : List ℕ) (a : ℕ) (known : ℕ → Bool) → order ≡ front ++ a ∷ back → ((b : ℕ) → holds front b ≡ true → known b ≡ true)
       → method_calls_only known (slice_get p.methods a) ≡ true
   method-front opens front back a known split knows =
-      let seam : slice_get order (length front) ≡ Some a = ap (λ l. slice_get l (length front)) split ∙ slice_get-seam front a back in
-      let below : a < length rows = ordered.within a (holds_at order (length front) a seam) in
+      let below : a < length rows = placed rows order ordered front back a split in
       let m = there (methods_of decls) a (omega (arith, below, made.len)) in
       let resolved = method-at d decls a m.0 m.1 in
       let calls_known : (b : ℕ) → method_calls d (Some m.0) b ≡ true → known b ≡ true = λ b k.
       let g : goes rows a b ≡ true = made.made a b (omega (arith, below, made.len)) ∙ ap (λ o. method_calls d o b) m.1 ∙ k in
-      let f : take (length front) order ≡ front = ap (take (length front)) split ∙ take-seam front (a ∷ back) in
-      knows b (sym (ap (λ l. holds l b) f) ∙ ordered.behind (length front) a b seam g) in
+      knows b (behind rows order ordered front back a b split g) in
       ap (method_calls_only known) resolved.1 ∙ body-only d m.0 known opens (place-in m.0 (methods_of decls) a m.1) calls_known
-
-  twice : (front back : List ℕ) (a : ℕ) → order ≡ front ++ a ∷ back → holds front a ≡ true → ⊥
-  twice front back a split h =
-      let seam : slice_get order (length front) ≡ Some a = ap (λ l. slice_get l (length front)) split ∙ slice_get-seam front a back in
-      let whole : take (length front) order ≡ front = ap (take (length front)) split ∙ take-seam front (a ∷ back) in
-      once-apart order (length front) a ordered.once seam (ap (λ l. holds l a) whole ∙ h)
 
   in-front-from : AreOpen d → (front rest seen : List ℕ) → order ≡ front ++ rest → ((b : ℕ) → is_among seen b ≡ holds front b) → calls_in_front p seen rest ≡ true
   in-front-from opens front [] seen split same = refl
@@ -161,7 +172,7 @@ module _ (texts : List (List ℕ)) (decls : List DeclTree) (name : List ℕ) (or
       both-so (method_calls_only (is_among seen) (slice_get p.methods a)) (not (is_among seen a) && calls_in_front p (a ∷ seen) back)
       (method-front opens front back a (is_among seen) split (λ b h. same b ∙ h))
       (both-so (not (is_among seen a)) (calls_in_front p (a ∷ seen) back)
-      (not-true (is_among seen a) (λ h. twice front back a split (sym (same a) ∙ h)))
+      (not-true (is_among seen a) (λ h. twice rows order ordered front back a split (sym (same a) ∙ h)))
       (in-front-from opens (front ++ a ∷ []) back (a ∷ seen) (split ∙ sym (append_assoc front (a ∷ []) back)) (λ b. ap (λ t. nat_eq b a || t) (same b) ∙ sym (holds-pushed front a b))))
 
   pub order-front : AreOpen d → calls_in_front p [] order ≡ true

@@ -19,7 +19,7 @@ use Rattle.wf_ast.specs.ParsedTree as tree
 use Rattle.wf_ast.specs.ParsedTree.{ExprTree, GivenTrees}
 use Rattle.wf_named.specs.declared.nodes.Variable.TheVariants as variables
 use Rattle.wf_named.specs.NamedTree.{NamedTypeTree, NamedArgTrees, no_arg}
-use Rattle.wf_named.specs.WellNamed.{Scope as NamedScope, type_of_variable, kind_of, is_io, io_named, io_handed, is_that, hands_on, never_again, named_expr, named_args}
+use Rattle.wf_named.specs.WellNamed.{NamedScope as NamedScope, type_of_variable, kind_of, is_io, io_named, io_handed, is_that, hands_on, never_again, named_expr, named_args}
 use Rattle.wf_names_rules.specs.Declarations.{Variable, Method, Declared, is_spelt, text_of, place_in}
 use Rattle.wf_names_rules.specs.Uses.{Scope, uses_of, given_uses}
 use Rattle.wf_names_rules.specs.Meanings.{GivenValue, given_values, args_in, sort_of, sort_in, sort_at, known_at, passed_at, passed_arg, is_io_arg}

@@ -5,7 +5,7 @@ use Rattle.wf_text.specs.declared.rules.Rule.TheVariants.{N5}
 use Rattle.wf_text.specs.Precedence.{Decides}
 use Rattle.wf_names_rules.specs.Declarations.{Method, Declared}
 use Rattle.wf_names_rules.specs.Uses as uses
-use Rattle.wf_names_rules.specs.Uses.{Use, Scope, Site, sites}
+use Rattle.wf_names_rules.specs.Uses.{Use, Scope, sites}
 use Rattle.wf_names_rules.specs.Jumps.{Jump, labelled, to_label, to_innermost, block_jumps, has_label}
 use Rattle.wf_names_rules.specs.NameRules.{Breaks, by_use, by_label, unknown_label, outside_loops, UseBreaks, IsUsed, IsMethod}
 use Rattle.wf_names_uses.proofs.UseLaws.{uses_found-decides}

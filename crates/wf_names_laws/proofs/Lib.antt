@@ -19,5 +19,6 @@ pub mod ResolvedOrder
 pub mod ScopeLemmas
 pub mod StmtLaws
 pub mod StmtsKept
+pub mod StructOrders
 pub mod VariableLemmas
 pub mod WholeLaws

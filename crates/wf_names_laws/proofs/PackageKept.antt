@@ -37,4 +37,4 @@ methods-kept d (parsed.method public owner name mark args result body at ∷ dec
     (block-kept (standing_at d (method_scope d m)) [] body behind.1) (methods-kept d decls parts.1)
 
 pub resolving_keeps_form : ResolvingKeepsForm
-resolving_keeps_form d name decls order h = methods-kept d decls h
+resolving_keeps_form d name decls order struct_order h = methods-kept d decls h

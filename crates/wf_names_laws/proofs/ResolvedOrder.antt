@@ -71,4 +71,4 @@ methods-rise d (parsed.method public owner name mark args result body at ∷ dec
     and-true (rise (named_block_places (resolved_block k [] body))) _ (body-rises k body parts.0) (methods-rise d decls parts.1)
 
 pub resolving_keeps_order : ResolvingKeepsOrder
-resolving_keeps_order name texts decls order h = methods-rise (declared texts decls) decls h
+resolving_keeps_order name texts decls order struct_order h = methods-rise (declared texts decls) decls h

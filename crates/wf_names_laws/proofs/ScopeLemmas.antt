@@ -46,13 +46,13 @@ variables-typed : (d : Declared) (there : Scope) (vs : List Variable) → HasTyp
 variables-typed d there vs n v e =
     (there, ap (option_map (λ (x : VarTree). x.of)) (slice_get-map (resolved_variable (standing_at d there)) vs n ∙ ap (option_map (resolved_variable (standing_at d there))) e))
 
-module _ (name : List ℕ) (texts : List (List ℕ)) (decls : List DeclTree) (order : List ℕ) (h : Decides (Breaks (declared texts decls)) None) where
+module _ (name : List ℕ) (texts : List (List ℕ)) (decls : List DeclTree) (order struct_order : List ℕ) (h : Decides (Breaks (declared texts decls)) None) where
   -- The package, and the resolved one.
   abbrev given : Declared
   given = declared texts decls
 
   abbrev made : NamedPackageTree
-  made = resolved_by given name decls order
+  made = resolved_by given name decls order struct_order
 
   constants-typed : (below : ℕ) (known : List Variable) → ((i : ℕ) (v : Variable) → slice_get known i ≡ Some v → KnownConstant given below i v)
       → HasTypesOf given known (λ n. if nat_lt n below then option_map (λ (x : ConstTree). x.of) (slice_get made.consts n) else None)

@@ -2,9 +2,9 @@
 use Rattle.std.proofs.Common.{◌≡◌, ℕ, suc, Bool, true, ◌&&◌, List, [], ◌∷◌, ◌++◌, length, Option, Some, None, refl, sym, ap, ◌∙◌, length-append, arith}
 use Rattle.wf_ast.specs.declared.parsed.Name.{Name}
 use Rattle.wf_ast.specs.ParsedTree as tree
-use Rattle.wf_ast.specs.ParsedTree.{ExprTree, GivenTrees, TargetTree, ClauseTrees, ViaTree, StmtTree, BlockTree, ArmTrees}
+use Rattle.wf_ast.specs.ParsedTree.{TargetTree, ClauseTrees, ViaTree, StmtTree, BlockTree, ArmTrees}
 use Rattle.wf_named.specs.NamedTree.{NamedStmtTree, NamedBlockTree}
-use Rattle.wf_named.specs.WellNamed.{Scope as NamedScope, is_there, named_expr, named_call, named_target, named_clauses, named_letters, named_via, named_stmt, named_block, named_arms}
+use Rattle.wf_named.specs.WellNamed.{NamedScope as NamedScope, is_there, named_expr, named_call, named_target, named_clauses, named_letters, named_via, named_stmt, named_block, named_arms}
 use Rattle.wf_names_rules.specs.Declarations.{Declared}
 use Rattle.wf_names_rules.specs.Uses.{Use, Scope, uses_of, call_uses, target_uses, clause_uses, via_uses, stmt_uses, block_uses, arm_uses}
 use Rattle.wf_names_rules.specs.Jumps.{Jump, label_jumps, stmt_jumps, block_jumps, arm_jumps}

@@ -6,7 +6,7 @@ use Rattle.wf_ast.specs.declared.parsed.Root.TheVariants as roots
 use Rattle.wf_named.specs.declared.nodes.Variable.{Variable as NamedVariable}
 use Rattle.wf_named.specs.declared.nodes.Variable.TheVariants as variables
 use Rattle.wf_named.specs.NamedTree.{NamedTypeTree}
-use Rattle.wf_named.specs.WellNamed.{Scope as NamedScope, type_of_variable, is_there}
+use Rattle.wf_named.specs.WellNamed.{NamedScope as NamedScope, type_of_variable, is_there}
 use Rattle.wf_names_rules.specs.declared.sorts.Sort.{Sort}
 use Rattle.wf_names_rules.specs.Declarations.{Variable, Declared, is_spelt, text_of, place_in}
 use Rattle.wf_names_rules.specs.Uses.{Scope}

@@ -27,7 +27,7 @@ use Rattle.wf_names_laws.proofs.ExprLaws.{number-below}
 use Rattle.wf_names_laws.proofs.PackageLemmas.{struct-resolved, structs-long}
 use Rattle.wf_names_laws.proofs.DeclLaws.{struct-types-kept}
 
-item-at : {X : Type 0} (xs : List X) (i : ℕ) → i < length xs → (x : X) × (slice_get xs i ≡ Some x)
+pub item-at : {X : Type 0} (xs : List X) (i : ℕ) → i < length xs → (x : X) × (slice_get xs i ≡ Some x)
 item-at [] i b = absurd (omega (arith, b))
 item-at (x ∷ xs) zero b = (x, refl)
 item-at (x ∷ xs) (suc i) b = item-at xs i (omega (arith, b))
@@ -46,21 +46,21 @@ either true y h = inl refl
 either false true h = inr refl
 either false false h = absurd (cc h)
 
-fields-whole : (k : Standing) (whole : ℕ → Bool) (vs : List Variable) → ((i : ℕ) (v : Variable) → slice_get vs i ≡ Some v → is_whole_type whole (resolved_type k v.of) ≡ true)
+pub fields-whole : (k : Standing) (whole : ℕ → Bool) (vs : List Variable) → ((i : ℕ) (v : Variable) → slice_get vs i ≡ Some v → is_whole_type whole (resolved_type k v.of) ≡ true)
     → list_all (λ (x : VarTree). is_whole_type whole x.of) (map (resolved_variable k) vs) ≡ true
 fields-whole k whole [] all = refl
 fields-whole k whole (v ∷ vs) all =
     both-so (is_whole_type whole (resolved_type k v.of)) (list_all (λ (x : VarTree). is_whole_type whole x.of) (map (resolved_variable k) vs)) (all 0 v refl)
     (fields-whole k whole vs (λ i w e. all (suc i) w e))
 
-module _ (name : List ℕ) (texts : List (List ℕ)) (decls : List DeclTree) (order : List ℕ) (h : Decides (Breaks (declared texts decls)) None) where
+module _ (name : List ℕ) (texts : List (List ℕ)) (decls : List DeclTree) (order struct_order : List ℕ) (h : Decides (Breaks (declared texts decls)) None) where
   abbrev given : Declared
   given = declared texts decls
 
   abbrev made : NamedPackageTree
-  made = resolved_by given name decls order
+  made = resolved_by given name decls order struct_order
 
-  no-cycle : (a : ℕ) (it : Structure) → slice_get given.structs a ≡ Some it → Path (holds_struct given) a a → ⊥
+  pub no-cycle : (a : ℕ) (it : Structure) → slice_get given.structs a ≡ Some it → Path (holds_struct given) a a → ⊥
   no-cycle a it e p = h (record { rule = N4; at = it.name.at }) (by_cycle (record { rule = N4; at = it.name.at }) (holds_itself a it e p))
 
   -- Structs that hold the one with the number n, each once.
@@ -111,7 +111,7 @@ module _ (name : List ℕ) (texts : List (List ℕ)) (decls : List DeclTree) (or
   WholeBehind levels = (n : ℕ) (it : Structure) (holders : List ℕ) → slice_get given.structs n ≡ Some it → Hold n holders → length given.structs ≤ length holders + levels
       → is_whole made levels n ≡ true
 
-  holds-it : (n m i : ℕ) (it : Structure) (v : Variable) → slice_get given.structs n ≡ Some it → slice_get it.fields i ≡ Some v → struct_held given v.of ≡ Some m → holds_struct given n m ≡ true
+  pub holds-it : (n m i : ℕ) (it : Structure) (v : Variable) → slice_get given.structs n ≡ Some it → slice_get it.fields i ≡ Some v → struct_held given v.of ≡ Some m → holds_struct given n m ≡ true
   holds-it n m i it v e f held =
       ap (λ o. list_any (λ (w : Variable). is_the m (struct_held given w.of)) (fields_at o)) e
       ∙ any-at (λ (w : Variable). is_the m (struct_held given w.of)) it.fields i v f (ap (is_the m) held ∙ number_self m)
@@ -141,7 +141,7 @@ module _ (name : List ℕ) (texts : List (List ℕ)) (decls : List DeclTree) (or
       let r = struct-resolved given decls n it e in
       ap (is_whole_struct (is_whole made levels)) r.1
       ∙ fields-whole (standing_at given scope) (is_whole made levels) it.fields
-      (λ i v f. type-whole levels inner n i it v holders e all bound f v.of refl (all-at (λ (w : Variable). AreKept given scope (type_uses w.of)) it.fields i v (struct-types-kept name texts decls order h n it e) f))
+      (λ i v f. type-whole levels inner n i it v holders e all bound f v.of refl (all-at (λ (w : Variable). AreKept given scope (type_uses w.of)) it.fields i v (struct-types-kept name texts decls order struct_order h n it e) f))
 
   whole-behind : (levels : ℕ) → WholeBehind levels
   whole-behind zero = λ n it holders e all bound. absurd (let l = few n it holders e all in omega (arith, l, bound))

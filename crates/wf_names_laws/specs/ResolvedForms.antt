@@ -12,8 +12,8 @@ use Rattle.wf_names_resolve.specs.Package.{resolved_by, resolved_package}
 
 -- Well formed declarations are resolved to a package as the grammar gives, whatever their names stand for.
 abbrev pub ResolvingKeepsForm : Type 0
-ResolvingKeepsForm = (d : Declared) (name : List ℕ) (decls : List DeclTree) (order : List ℕ) → list_all well_formed decls ≡ true → package_by_grammar (resolved_by d name decls order) ≡ true
+ResolvingKeepsForm = (d : Declared) (name : List ℕ) (decls : List DeclTree) (order struct_order : List ℕ) → list_all well_formed decls ≡ true → package_by_grammar (resolved_by d name decls order struct_order) ≡ true
 
 -- What stands in order in a parsed tree does so in the resolved one.
 abbrev pub ResolvingKeepsOrder : Type 0
-ResolvingKeepsOrder = (name : List ℕ) (texts : List (List ℕ)) (decls : List DeclTree) (order : List ℕ) → bodies_rise decls ≡ true → named_bodies_rise (resolved_package name texts decls order) ≡ true
+ResolvingKeepsOrder = (name : List ℕ) (texts : List (List ℕ)) (decls : List DeclTree) (order struct_order : List ℕ) → bodies_rise decls ≡ true → named_bodies_rise (resolved_package name texts decls order struct_order) ≡ true

@@ -2,7 +2,7 @@
 use Rattle.std.specs.Prelude.{◌≡◌, ℕ, List, Option, Some, length, slice_get}
 use Rattle.wf_named.specs.declared.nodes.Variable.TheVariants as variables
 use Rattle.wf_named.specs.NamedTree.{NamedTypeTree, NamedMethodTree}
-use Rattle.wf_named.specs.WellNamed.{Scope as NamedScope, type_of_variable}
+use Rattle.wf_named.specs.WellNamed.{NamedScope as NamedScope, type_of_variable}
 use Rattle.wf_names_rules.specs.Declarations.{Variable, Method, Declared, struct_named}
 use Rattle.wf_names_rules.specs.Uses.{Scope}
 use Rattle.wf_names_rules.specs.Meanings.{fields_known, args_in}

@@ -7,7 +7,7 @@ ghost use Rattle.wf_text.specs.Precedence.{Decides};
 ghost use Rattle.wf_ast.specs.declared.parsed.Name.{Name};
 ghost use Rattle.wf_ast.specs.declared.parsed.WrittenMark.{WrittenMark};
 ghost use Rattle.wf_ast.specs.ParsedTree.{BlockTree, CallTree, ExprTree, TypeTree};
-ghost use Rattle.wf_named.specs.WellNamed.{Scope as NamedScope, all_whole, has_few_variables, named_block, named_call, named_consts, named_expr, named_method, named_structs, named_type, scope_of_const, scope_of_method, scope_of_struct, well_named};
+ghost use Rattle.wf_named.specs.WellNamed.{NamedScope as NamedScope, all_whole, has_few_variables, named_block, named_call, named_consts, named_expr, named_method, named_structs, named_type, scope_of_const, scope_of_method, scope_of_struct, well_named};
 ghost use Rattle.wf_names_rules.specs.Declarations.{Constant, Declared, Method, Structure, Variable, as_variable};
 ghost use Rattle.wf_names_rules.specs.Uses.{Scope, block_uses, call_uses, constant_scope, method_scope, sites, struct_scope, type_uses, uses_of};
 ghost use Rattle.wf_names_rules.specs.Jumps.{block_jumps};

@@ -11,9 +11,9 @@ use Rattle.wf_named.specs.NamedTree.{Word, ConstTree, NamedStructTree, NamedMeth
 use Rattle.wf_named.specs.NamedParts.{NamedParts, named_package, exprs_of, stmts_of}
 use Rattle.wf_named.specs.NamedTrees.{method_made}
 use Rattle.wf_names_rules.specs.declared.tables.Scope.{Scope as ScopeTables}
-use Rattle.wf_names_rules.specs.Declarations.{Variable, Constant, Method, Declared, variables, locals_of, as_variable, constants_of, statuses_of, methods_of, text_of}
+use Rattle.wf_names_rules.specs.Declarations.{Variable, Constant, Method, Declared, variables, locals_of, as_variable, constants_of, statuses_of, methods_of, text_of, declared_in}
 use Rattle.wf_names_rules.specs.Uses.{constant_scope}
-use Rattle.wf_names_scopes.specs.Agreeing.{package_of, TellsScope, TellsConstants}
+use Rattle.wf_names_scopes.specs.Agreeing.{TellsScope, TellsConstants}
 use Rattle.wf_names_scopes.proofs.FirstLemmas.{map_length}
 use Rattle.wf_names_scopes.proofs.PackageLemmas.{constants_append, statuses_append, trees_made}
 use Rattle.wf_names_scopes.proofs.UseLemmas.{drop_at, past_end}
@@ -117,10 +117,10 @@ consts_passed d began now next xs ys old new a step tells =
           ∙ ap (λ cs. with_consts now cs) (sym (consts_append d a.known xs ys)) ∙ a.same;
     }
 
-pub consts_begun : (p : Parsed) (t : NamedPackageTree) (s : ScopeTables) → TellsScope (package_of p) (constant_scope []) s
-    → ConstsAdded (package_of p) t t (constants_of (decls_made (expr_trees p.exprs) (stmt_trees p.exprs p.stmts) p.decls)) s
+pub consts_begun : (p : Parsed) (t : NamedPackageTree) (s : ScopeTables) → TellsScope (declared_in p) (constant_scope []) s
+    → ConstsAdded (declared_in p) t t (constants_of (decls_made (expr_trees p.exprs) (stmt_trees p.exprs p.stmts) p.decls)) s
 consts_begun p t s h =
-    let P : List DeclTree → Type 0 = λ ds. ConstsAdded (package_of p) t t (constants_of ds) s in
+    let P : List DeclTree → Type 0 = λ ds. ConstsAdded (declared_in p) t t (constants_of ds) s in
     subst P (trees_made p) (record { known = []; tells = h; split = refl; same = refl })
 
 module _ (es : List ExprTree) (ts : List StmtTree) (decls : List DeclNode) (i : ℕ) (n : DeclNode) (at : slice_get decls i ≡ Some n) where
@@ -179,8 +179,8 @@ others_counted d old new x e =
     omega (arith, methods_counted old, methods_counted new, ap (λ t. length t.methods) e, length-append (named_package old).methods (resolved_methods d (x ∷ [])), methods_of_one d x)
 
 -- The whole, of a package with nothing in it.
-pub package_new : (p : NamedParts) (name : List ℕ) → p ≡ record { package_name = name; texts = []; exprs = []; stmts = []; consts = []; statuses = []; structs = []; methods = []; order = [] }
-    → named_package p ≡ record { package_name = name; consts = []; statuses = []; structs = []; methods = []; order = [] }
+pub package_new : (p : NamedParts) (name : List ℕ) → p ≡ record { package_name = name; texts = []; exprs = []; stmts = []; consts = []; statuses = []; structs = []; methods = []; order = []; struct_order = [] }
+    → named_package p ≡ record { package_name = name; consts = []; statuses = []; structs = []; methods = []; order = []; struct_order = [] }
 unfolding named_package
 package_new p name e = ap named_package e
 
@@ -196,14 +196,14 @@ ok_equal_more (Ok x) a s t e h = h ∙ e
 ok_equal_more (Err f) a s t e h = tt
 
 -- The whole, from a package with nothing in it.
-pub package_made : (p : Parsed) (new : NamedParts) (name : List ℕ) (order : List ℕ) (all last : NamedPackageTree) → name ≡ p.name
-    → new ≡ record { package_name = name; texts = []; exprs = []; stmts = []; consts = []; statuses = []; structs = []; methods = []; order = [] }
-    → all ≡ with_others (package_of p) (with_consts (named_package new) (resolved_consts (package_of p) [] (package_of p).constants)) (decl_trees p.exprs p.stmts p.decls)
-    → last ≡ record all { order = order } → last ≡ resolved_by (package_of p) p.name (decl_trees p.exprs p.stmts p.decls) order
-package_made p new name order all last e f g h =
-    let d = package_of p in
+pub package_made : (p : Parsed) (new : NamedParts) (name : List ℕ) (order struct_order : List ℕ) (all last : NamedPackageTree) → name ≡ p.name
+    → new ≡ record { package_name = name; texts = []; exprs = []; stmts = []; consts = []; statuses = []; structs = []; methods = []; order = []; struct_order = [] }
+    → all ≡ with_others (declared_in p) (with_consts (named_package new) (resolved_consts (declared_in p) [] (declared_in p).constants)) (decl_trees p.exprs p.stmts p.decls)
+    → last ≡ record all { order = order; struct_order = struct_order } → last ≡ resolved_by (declared_in p) p.name (decl_trees p.exprs p.stmts p.decls) order struct_order
+package_made p new name order struct_order all last e f g h =
+    let d = declared_in p in
     let decls = decl_trees p.exprs p.stmts p.decls in
     let whole : NamedPackageTree → NamedPackageTree = λ t. with_others d (with_consts t (resolved_consts d [] d.constants)) decls in
-    let ordered : NamedPackageTree → NamedPackageTree = λ t. record t { order = order } in
-    let empty : List ℕ → NamedPackageTree = λ n. record { package_name = n; consts = []; statuses = []; structs = []; methods = []; order = [] } in
+    let ordered : NamedPackageTree → NamedPackageTree = λ t. record t { order = order; struct_order = struct_order } in
+    let empty : List ℕ → NamedPackageTree = λ n. record { package_name = n; consts = []; statuses = []; structs = []; methods = []; order = []; struct_order = [] } in
     h ∙ ap ordered (g ∙ ap whole (package_new new name f)) ∙ ap (λ n. ordered (whole (empty n))) e

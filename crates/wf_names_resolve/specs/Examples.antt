@@ -8,7 +8,7 @@ use Rattle.wf_ast.specs.declared.parsed.Root.{Root}
 use Rattle.wf_ast.specs.declared.parsed.Root.TheVariants as roots
 use Rattle.wf_ast.specs.declared.parsed.WrittenMark.TheVariants.{Exclamation, Question}
 use Rattle.wf_ast.specs.ParsedTree as parsed
-use Rattle.wf_ast.specs.ParsedTree.{ExprTree, GivenTrees, TypeTree, StmtTree, BlockTree, DeclTree}
+use Rattle.wf_ast.specs.ParsedTree.{GivenTrees, TypeTree, StmtTree, BlockTree, DeclTree}
 use Rattle.wf_named.specs.NamedTree as tree
 use Rattle.wf_named.specs.NamedTree.{NamedArgTrees, NamedBlockTree}
 use Rattle.wf_named.specs.Examples.{at}

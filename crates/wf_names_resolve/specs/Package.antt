@@ -3,7 +3,7 @@ use Rattle.std.specs.Prelude.{ℕ, Bool, List, [], ◌∷◌, ◌++◌, map, Opt
 use Rattle.wf_ast.specs.declared.parsed.Name.{Name}
 use Rattle.wf_ast.specs.declared.parsed.WrittenMark.{WrittenMark}
 use Rattle.wf_ast.specs.ParsedTree as parsed
-use Rattle.wf_ast.specs.ParsedTree.{ExprTree, TypeTree, FieldTrees, ResultTree, BlockTree, DeclTree}
+use Rattle.wf_ast.specs.ParsedTree.{ExprTree, TypeTree, ResultTree, DeclTree}
 use Rattle.wf_named.specs.NamedTree.{NamedTypeTree, VarTree, ConstTree, NamedStructTree, NamedMethodTree, NamedPackageTree}
 use Rattle.wf_names_rules.specs.Declarations.{Variable, Constant, Structure, Method, Declared, declared, variables, locals_of, as_variable, text_of}
 use Rattle.wf_names_rules.specs.Uses.{constant_scope, struct_scope, method_scope}
@@ -59,17 +59,18 @@ resolved_methods d (parsed.method public owner name mark args result body at ∷
     ∷ resolved_methods d decls
 resolved_methods d (_ ∷ decls) = resolved_methods d decls
 
-abbrev pub resolved_by : Declared → (name : List ℕ) → List DeclTree → (order : List ℕ) → NamedPackageTree
-resolved_by d name decls order = record {
+abbrev pub resolved_by : Declared → (name : List ℕ) → List DeclTree → (order struct_order : List ℕ) → NamedPackageTree
+resolved_by d name decls order struct_order = record {
   package_name = name;
   consts = resolved_consts d [] d.constants;
   statuses = map (word_of (text_of d)) d.statuses;
   structs = resolved_structs d decls;
   methods = resolved_methods d decls;
   order = order;
+  struct_order = struct_order;
 }
 
 -- The package of this name with these texts and declarations; `order` has the numbers of all methods, each after those
--- that it calls.
-abbrev pub resolved_package : (name : List ℕ) → (texts : List (List ℕ)) → List DeclTree → (order : List ℕ) → NamedPackageTree
-resolved_package name texts decls order = resolved_by (declared texts decls) name decls order
+-- that it calls, and `struct_order` those of all structs, each after those that its fields hold.
+abbrev pub resolved_package : (name : List ℕ) → (texts : List (List ℕ)) → List DeclTree → (order struct_order : List ℕ) → NamedPackageTree
+resolved_package name texts decls order struct_order = resolved_by (declared texts decls) name decls order struct_order

@@ -1,7 +1,7 @@
 // The arguments of a call in the order in which its method declares them. A method has at most 64 arguments, so each is
 // looked for among those that are given.
 
-ghost use Rattle.std.specs.Prelude.{◌≡◌, ◌++◌, map, slice_get, bytes_eq, IfOk, OnOk};
+ghost use Rattle.std.specs.Prelude.{◌≡◌, ◌++◌, map, bytes_eq, IfOk, OnOk};
 ghost use Rattle.std.specs.List.{find};
 ghost use Rattle.wf_base.specs.BaseTable.{row_of};
 ghost use Rattle.wf_names_rules.specs.Declarations.{bytes_of, is_spelt};
@@ -76,8 +76,8 @@ fn method_args(
 ) -> Result<Sequence<ExprId>, NoMemory>
     ensures { IfOk result (λ values. values ≡ values_named given.now (args_at tables.now m)) }
 {
-    match tables.args.get(m) {
-        Some(args) => named_args(alloc, given, args.as_slice()),
+    match tables.variables.get(m) {
+        Some(known) => named_args(alloc, given, known.args.entries.keys().as_slice()),
         None => Ok(Sequence::new(alloc)),
     }
 }

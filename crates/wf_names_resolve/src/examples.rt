@@ -10,7 +10,7 @@ ghost use Rattle.wf_names_resolve.specs.Examples.{counting_texts, counting_decls
 
 /// The parsed tree of a package and its resolved tree, which is that of the resolved trees' examples.
 pub fn a_package_resolved()
-    ensures { resolved_package (codes "demo") counting_texts counting_decls (1 ∷ 0 ∷ []) ≡ counting }
+    ensures { resolved_package (codes "demo") counting_texts counting_decls (1 ∷ 0 ∷ []) (0 ∷ []) ≡ counting }
 {}
 
 /// Arguments stand in the order of their declaration, however they are given.

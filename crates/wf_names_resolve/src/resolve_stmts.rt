@@ -2,7 +2,6 @@
 
 ghost use Rattle.std.specs.Prelude.{◌≡◌, ◌<◌, ◌++◌, ◌∷◌, [], length, IfOk, OnOk};
 ghost use Rattle.std.specs.List.{AllByRecursion};
-ghost use Rattle.wf_ast.specs.ParsedTree as parsed_tree;
 ghost use Rattle.wf_ast.specs.ParsedTrees.{expr_trees, expr_at as parsed_expr_at, stmt_trees, stmt_at as parsed_stmt_at, block_at as parsed_block_at, else_at as parsed_else_at, arms_at as parsed_arms_at, clauses_at as parsed_clauses_at, stmt_made as parsed_stmt_made};
 ghost use Rattle.wf_ast.specs.ParsedParts.{BlockBelow, ElseBelow, StmtParts};
 ghost use Rattle.wf_named.specs.NamedParts.{exprs_of, stmts_of, NamedStmtParts};

@@ -1,6 +1,7 @@
 -- Lists that grow by one number, each number once.
-use Rattle.std.proofs.Common.{◌≡◌, ◌⊎◌, ℕ, ◌||◌, Bool, true, false, if◌then◌else◌, List, [], ◌∷◌, ◌++◌, nat_eq, refl, sym, ap, ◌∙◌, inl, inr}
+use Rattle.std.proofs.Common.{◌≡◌, ◌⊎◌, ℕ, ◌||◌, Bool, true, false, cond, if◌then◌else◌, List, [], ◌∷◌, ◌++◌, Some, is_some, nat_eq, refl, sym, ap, ◌∙◌, inl, inr}
 use Rattle.std.specs.List.{list_any}
+use Rattle.std.specs.Map.{keys_of, lookup}
 use Rattle.std.proofs.lemmas.List.Folds.{list_any-append}
 use Rattle.indexmap.specs.IndexSet.{insert_key}
 use Rattle.graphs.specs.Graphs.{holds}
@@ -45,3 +46,12 @@ only_if false ks a b h = elim (either (holds ks b) (nat_eq b a) (sym (holds_push
 
 pub insert-only : (ks : List ℕ) (a b : ℕ) → holds (insert_key nat_eq ks a) b ≡ true → (holds ks b ≡ true) ⊎ (b ≡ a)
 insert-only ks a b h = only_if (list_any (nat_eq a) ks) ks a b h
+
+-- The keys of a map are those at which it has something.
+pub known_names : {K X : Type 0} (test : K → Bool) (es : List (K × X)) → list_any test (keys_of es) ≡ is_some (lookup test es)
+known_names test [] = refl
+known_names test (e ∷ es) = by (test e.0) (known_names test es)
+  where
+    by : (b : Bool) → list_any test (keys_of es) ≡ is_some (lookup test es) → (b || list_any test (keys_of es)) ≡ is_some (cond b (Some e.1) (lookup test es))
+    by true r = refl
+    by false r = r

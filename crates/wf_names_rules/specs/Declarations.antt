@@ -2,8 +2,10 @@
 use Rattle.std.specs.Prelude.{ℕ, Bool, ◌&&◌, List, [], ◌∷◌, ◌++◌, Option, Some, None, slice_get, nat_eq}
 use Rattle.std.specs.List.{find, position_from}
 use Rattle.wf_ast.specs.declared.parsed.Name.{Name}
+use Rattle.wf_ast.specs.ParsedParts.{Parsed}
 use Rattle.wf_ast.specs.ParsedTree as tree
 use Rattle.wf_ast.specs.ParsedTree.{ExprTree, TypeTree, FieldTrees, ResultTree, BlockTree, StmtTree, DeclTree}
+use Rattle.wf_ast.specs.ParsedTrees.{decl_trees}
 
 -- A name with its declared type: a constant, a field, an argument or a local.
 pub record Variable : Type 0 where
@@ -77,6 +79,10 @@ methods_of (_ ∷ decls) = methods_of decls
 
 abbrev pub declared : List (List ℕ) → List DeclTree → Declared
 declared texts decls = record { texts = texts; statuses = statuses_of decls; constants = constants_of decls; structs = structs_of decls; methods = methods_of decls }
+
+-- What a parsed package declares.
+abbrev pub declared_in : Parsed → Declared
+declared_in p = declared p.texts (decl_trees p.exprs p.stmts p.decls)
 
 -- The bytes of a text.
 abbrev pub bytes_in : Option (List ℕ) → List ℕ

@@ -11,7 +11,7 @@ use Rattle.wf_ast.specs.declared.parsed.Path.{Path}
 use Rattle.wf_ast.specs.declared.parsed.Root.{Root}
 use Rattle.wf_ast.specs.declared.parsed.Root.TheVariants as roots
 use Rattle.wf_ast.specs.ParsedTree as tree
-use Rattle.wf_ast.specs.ParsedTree.{ExprTree, GivenTrees, CallTree}
+use Rattle.wf_ast.specs.ParsedTree.{ExprTree, CallTree}
 use Rattle.wf_names_rules.specs.declared.callees.Callee.{Callee}
 use Rattle.wf_names_rules.specs.declared.callees.Callee.TheVariants as callees
 use Rattle.wf_names_rules.specs.declared.seen.Seen.{Seen}

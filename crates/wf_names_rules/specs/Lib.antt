@@ -12,5 +12,6 @@ pub mod Pairs
 pub mod Passes
 pub mod Reserved
 pub mod Sizes
+pub mod StructRows
 pub mod Tables
 pub mod Uses

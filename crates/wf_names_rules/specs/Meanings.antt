@@ -105,9 +105,13 @@ abbrev pub public_in : Option Method → Bool
 public_in None = false
 public_in (Some m) = m.public
 
+-- The names of variables by their texts, each once, in the order in which they are declared first.
+abbrev pub names_once : List Variable → List ℕ
+names_once variables = insert_all nat_eq [] (map (λ v. v.name.text.0) variables)
+
 abbrev pub args_in : Option Method → List ℕ
 args_in None = []
-args_in (Some m) = insert_all nat_eq [] (map (λ v. v.name.text.0) m.args)
+args_in (Some m) = names_once m.args
 
 -- What is known in a scope of a package.
 abbrev pub known_at : Declared → Scope → Known

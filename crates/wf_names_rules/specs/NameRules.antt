@@ -12,7 +12,7 @@ use Rattle.wf_ast.specs.ParsedTree as tree
 use Rattle.wf_ast.specs.ParsedTree.{CallTree}
 use Rattle.wf_names_rules.specs.Declarations.{Variable, Constant, Structure, Method, Declared, is_spelt, text_of, status_named, struct_named}
 use Rattle.wf_names_rules.specs.Uses as uses
-use Rattle.wf_names_rules.specs.Uses.{Use, Scope, Site, sites, method_uses, method_scope}
+use Rattle.wf_names_rules.specs.Uses.{Use, Scope, sites, method_uses, method_scope}
 use Rattle.wf_names_rules.specs.Meanings.{GivenValue, is_base_status, known_at, path_sort, call_name, call_args, callee_of, call_has_meaning, parameters_of, is_parameter, lacks_one, passed_arg, is_io_arg}
 use Rattle.wf_names_rules.specs.declared.callees.Callee.{Callee}
 use Rattle.wf_names_rules.specs.declared.callees.Callee.TheVariants as callees
@@ -196,7 +196,7 @@ pub data LabelBreaks (d : Declared) : Refusal → Type 0 where
 
 -- What the graphs of methods and of structs break.
 pub data CycleBreaks (d : Declared) : Refusal → Type 0 where
-  -- N4: a method that can reach itself by calls, at its name
+  -- N4: a method from which calls lead back to it, at its name
   recursion : (a : ℕ) (m : Method) → slice_get d.methods a ≡ Some m → Path (calls d) a a → CycleBreaks d (record { rule = N4; at = m.name.at })
   -- N4: a struct that holds itself through fields, at its name
   holds_itself : (a : ℕ) (s : Structure) → slice_get d.structs a ≡ Some s → Path (holds_struct d) a a → CycleBreaks d (record { rule = N4; at = s.name.at })

@@ -60,8 +60,8 @@ fields_at (Some s) = s.fields
 abbrev pub holds_struct : Declared → ℕ → ℕ → Bool
 holds_struct d a b = list_any (λ v. is_the b (struct_held d v.of)) (fields_at (slice_get d.structs a))
 
--- The bytes of fields: a field of struct type takes 8 and the bytes of its struct's fields, and 8 alone where that
--- struct holds itself.
+-- The bytes of fields: a field of struct type takes 8, and as many as the fields of its struct unless that struct
+-- holds itself.
 pub data Take (d : Declared) : List Variable → ℕ → Type 0 where
   nothing : Take d [] 0
   plain : (v : Variable) (vs : List Variable) (n : ℕ) → struct_held d v.of ≡ None → Take d vs n → Take d (v ∷ vs) (plain_bytes d v.of + n)

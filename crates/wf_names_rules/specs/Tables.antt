@@ -1,8 +1,8 @@
 -- What tables know.
 use Rattle.std.specs.Prelude.{ℕ, Bool, false, cond, List, [], Option, Some, None, is_some, slice_get, nat_eq, nat_lt, option_map}
 use Rattle.std.specs.BTreeMap.{BTreeMap}
-use Rattle.indexmap.specs.IndexMap.{IndexMap, get}
-use Rattle.indexmap.specs.IndexSet.{IndexSet, contains}
+use Rattle.indexmap.specs.IndexMap.{IndexMap, get, keys}
+use Rattle.indexmap.specs.IndexSet.{contains}
 use Rattle.wf_names_rules.specs.declared.sorts.Sort.{Sort}
 use Rattle.wf_names_rules.specs.declared.tables.Numbers.{Numbers}
 use Rattle.wf_names_rules.specs.declared.tables.Entry.{Entry}
@@ -109,12 +109,16 @@ abbrev pub own_method_at : Tables → (this : Option ℕ) → ℕ → Option ℕ
 own_method_at t None text = None
 own_method_at t (Some owner) text = pair_at t.methods (owner, text)
 
-abbrev pub names_in : {S : Type 0} → Option (IndexSet ℕ S) → List ℕ
-names_in None = []
-names_in (Some set) = set.keys
+-- The names of variables, in order of declaration, and of a method's arguments; a method that isn't there has none.
+abbrev pub names_known : Variables → List ℕ
+names_known variables = keys variables.entries
+
+abbrev pub arg_names_in : Option MethodVariables → List ℕ
+arg_names_in None = []
+arg_names_in (Some known) = names_known known.args
 
 abbrev pub args_at : Tables → ℕ → List ℕ
-args_at t m = names_in (slice_get t.args.items m)
+args_at t m = arg_names_in (slice_get t.variables.items m)
 
 abbrev pub known_by : List (List ℕ) → Tables → Scope → Known
 known_by texts t s = record {

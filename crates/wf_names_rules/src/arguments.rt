@@ -173,8 +173,8 @@ fn gives_bytes(parsed: &PackageNodes, names: &[Name], wanted: &[u8]) -> bool
 fn has_arg(tables: &Tables, m: usize, text: TextId) -> bool
     ensures { result ≡ list_any (nat_eq text.0) (args_at tables.now m) }
 {
-    match tables.args.get(m) {
-        Some(args) => args.contains(&text.0),
+    match tables.variables.get(m) {
+        Some(known) => known.args.entries.contains_key(&text.0),
         None => false,
     }
 }
@@ -249,8 +249,8 @@ fn any_outside(wanted: &[u32], given: &IndexSet<u32>) -> bool
 fn wanted_args(tables: &Tables, m: usize) -> &[u32]
     ensures { result.now ≡ args_at tables.now m }
 {
-    match tables.args.get(m) {
-        Some(args) => args.as_slice(),
+    match tables.variables.get(m) {
+        Some(known) => known.args.entries.keys().as_slice(),
         None => &[],
     }
 }

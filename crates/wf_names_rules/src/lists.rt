@@ -53,7 +53,7 @@ pub fn doubles(alloc: Global, found: &mut Found, names: &[Name]) -> Result<(), N
 }
 
 /// A name that nothing may be declared under.
-pub fn reserved_name(parsed: &PackageNodes, name: Name) -> Option<Refusal>
+pub(crate) fn reserved_name(parsed: &PackageNodes, name: Name) -> Option<Refusal>
     ensures { result ≡ reserves_name parsed.now.texts name }
 {
     refused_if(

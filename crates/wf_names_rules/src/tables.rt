@@ -81,8 +81,6 @@ pub struct Tables {
     pub method_names: IndexSet<u32>,
     /// Of each method whether it is public.
     pub publics: Vec<bool>,
-    /// Of each method the names of its arguments.
-    pub args: Vec<IndexSet<u32>>,
     /// Of each method its arguments and its locals.
     pub variables: Vec<MethodVariables>,
 }
@@ -97,7 +95,6 @@ impl Drop for Tables {
             methods: _,
             method_names: _,
             publics: _,
-            args: _,
             variables: _,
         } = self;
     }

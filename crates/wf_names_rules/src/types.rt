@@ -1,6 +1,6 @@
 // What a written type says of the values that have it.
 
-ghost use Rattle.std.specs.Prelude.{◌≡◌, slice_get};
+ghost use Rattle.std.specs.Prelude.{◌≡◌};
 ghost use Rattle.wf_ast.specs.ParsedTrees.{type_at, core_at};
 ghost use Rattle.wf_names_rules.specs.Declarations.{bytes_of};
 ghost use Rattle.wf_names_rules.specs.Meanings.{width_named as width_by_name, width_of, sort_named as sort_by_name, slice_sort as slice_sort_of, array_sort as array_sort_of, sort_of as sort_of_type};

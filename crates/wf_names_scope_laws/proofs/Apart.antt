@@ -8,7 +8,7 @@ use Rattle.wf_ast.specs.declared.numbers.TextId.{TextId}
 use Rattle.wf_ast.specs.declared.parsed.Name.{Name}
 use Rattle.wf_names_rules.specs.Declarations.{Variable, Constant, Structure, Method, Declared, struct_named, structure_in, fields_in, as_variable}
 use Rattle.wf_names_rules.specs.NameRules as rules
-use Rattle.wf_names_rules.specs.NameRules.{Breaks, by_declaration, declared_twice, local_and_constant, later_of, AreApart, IsRepeated, twice, variable_names, IsUsed, IsMethod, IsStructure}
+use Rattle.wf_names_rules.specs.NameRules.{Breaks, by_declaration, declared_twice, local_and_constant, later_of, AreApart, IsRepeated, twice, variable_names, IsUsed}
 use Rattle.wf_names_rules.specs.Meanings.{fields_known}
 use Rattle.wf_names_rules.specs.Uses.{Use, Scope, Site, sites, sites_in, type_uses, uses_of, constant_scope, struct_scope, method_scope, constant_sites, struct_sites, method_sites, variable_uses, method_uses}
 use Rattle.wf_names_rules.specs.Uses as uses

@@ -26,7 +26,7 @@ use Rattle.wf_names_resolve.specs.Resolved.{number_or, base_status_number, calle
 use Rattle.wf_names_laws.specs.Kept.{IsKept, AreKept}
 use Rattle.wf_names_laws.proofs.ListLemmas.{all-front, all-behind}
 use Rattle.wf_names_scope_laws.specs.Scoping.{CalleeMeans}
-use Rattle.wf_names_scope_laws.specs.ResolvedExprs.{AreAllWanted, ResolvesExpr, ResolvesPart, ResolvesLinks, ResolvesCall, ResolvesArgs, ResolvesNamed, ResolvesSpelt, ResolvesType, ResolvesBounds}
+use Rattle.wf_names_scope_laws.specs.ResolvedExprs.{AreAllWanted, ResolvesExpr, ResolvesPart, ResolvesLinks, ResolvesCall, ResolvesArgs, ResolvesNamed, ResolvesType, ResolvesBounds}
 use Rattle.wf_names_scope_laws.specs.ResolvedExprs as is
 use Rattle.wf_names_scope_laws.proofs.Apart.{IsApart, args-apart}
 use Rattle.wf_names_scope_laws.proofs.Callees.{callee-means}

@@ -11,7 +11,7 @@ use Rattle.wf_parse.proofs.OneReadings.{parsed_distinct}
 use Rattle.wf_names_rules.specs.Declarations.{Variable, Constant, Structure, Method, Declared, declared, as_variable, local_of, locals_of, structs_of, methods_of}
 use Rattle.wf_names_rules.specs.NameRules.{Breaks}
 use Rattle.wf_names_rules.specs.Uses as uses
-use Rattle.wf_names_rules.specs.Uses.{Use, Scope, Site, uses_of, type_uses, stmt_uses, block_uses, result_uses, variable_uses, method_uses, constant_scope, struct_scope, method_scope, sites_in, constant_sites, struct_sites, method_sites, sites}
+use Rattle.wf_names_rules.specs.Uses.{Use, Scope, uses_of, type_uses, stmt_uses, block_uses, result_uses, variable_uses, method_uses, constant_scope, struct_scope, method_scope, sites_in, constant_sites, struct_sites, method_sites, sites}
 use Rattle.wf_names_resolve.specs.Standing.{standing_at}
 use Rattle.wf_names_resolve.specs.Package.{resolved_variable, resolved_consts, resolved_result, struct_in, resolved_structs, method_in, resolved_methods}
 use Rattle.wf_names_laws.specs.Kept.{IsKept, AreKept, IsKeptSite, AreKeptSites}
@@ -134,7 +134,7 @@ module _ (d : Declared) where
   methods-are (parsed.method public owner name mark args result body at ∷ decls) a = (a.0 mark refl, methods-are decls a.1)
 
 pub packages-are-resolved : PackagesAreResolved
-packages-are-resolved name texts decls order distinct h =
+packages-are-resolved name texts decls order struct_order distinct h =
     let d = declared texts decls in
     record {
       consts = all-consts d h distinct;
@@ -144,4 +144,4 @@ packages-are-resolved name texts decls order distinct h =
     }
 
 pub read-packages-are-resolved : ReadPackagesAreResolved
-read-packages-are-resolved name files read is kept order = packages-are-resolved read.name read.texts (decls_of read) order (parsed_distinct name files read is) kept
+read-packages-are-resolved name files read is kept order struct_order = packages-are-resolved read.name read.texts (decls_of read) order struct_order (parsed_distinct name files read is) kept

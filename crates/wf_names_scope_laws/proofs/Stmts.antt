@@ -4,7 +4,7 @@ use Rattle.wf_text.specs.Precedence.{Decides}
 use Rattle.wf_ast.specs.declared.parsed.Name.{Name}
 use Rattle.wf_ast.specs.ParsedParts.{AreDistinct}
 use Rattle.wf_ast.specs.ParsedTree as parsed
-use Rattle.wf_ast.specs.ParsedTree.{ExprTree, GivenTrees, TargetTree, ClauseTrees, ViaTree, StmtTree, BlockTree, ArmTrees}
+use Rattle.wf_ast.specs.ParsedTree.{GivenTrees, TargetTree, ClauseTrees, ViaTree, BlockTree, ArmTrees}
 use Rattle.wf_names_rules.specs.Declarations.{Declared}
 use Rattle.wf_names_rules.specs.NameRules.{Breaks}
 use Rattle.wf_names_rules.specs.Uses.{Use, Scope, uses_of, given_uses, call_uses, target_uses, clause_uses, via_uses, stmt_uses, block_uses, arm_uses}
@@ -13,7 +13,7 @@ use Rattle.wf_names_resolve.specs.Standing.{standing_at}
 use Rattle.wf_names_resolve.specs.Resolved.{outwards, letters_of, resolved_path, resolved_expr, resolved_part, resolved_given, resolved_call, resolved_target, resolved_clauses, resolved_via, resolved_block, resolved_arms}
 use Rattle.wf_names_laws.specs.Kept.{IsKept, AreKept, HasLoop, HaveLoops}
 use Rattle.wf_names_laws.proofs.ListLemmas.{all-front, all-behind}
-use Rattle.wf_names_scope_laws.specs.ResolvedStmts.{ResolvesTarget, ResolvesClauses, ResolvesLetters, ResolvesVia, ResolvesStmt, ResolvesBlock, ResolvesArms}
+use Rattle.wf_names_scope_laws.specs.ResolvedStmts.{ResolvesTarget, ResolvesClauses, ResolvesLetters, ResolvesVia, ResolvesBlock, ResolvesArms}
 use Rattle.wf_names_scope_laws.specs.ResolvedStmts as is
 use Rattle.wf_names_scope_laws.proofs.Apart.{IsApart}
 use Rattle.wf_names_scope_laws.proofs.Exprs.{expr-is, part-is, call-is}

@@ -77,11 +77,11 @@ pub record ResolvesPackage (d : Declared) (p : NamedPackageTree) : Type 0 where
 -- So it is for declarations that break no rule of names, over texts that differ, in whatever order the methods stand.
 abbrev pub PackagesAreResolved : Type 0
 PackagesAreResolved =
-    (name : List ℕ) (texts : List (List ℕ)) (decls : List DeclTree) (order : List ℕ) → AreDistinct texts → Decides (Breaks (declared texts decls)) None
-    → ResolvesPackage (declared texts decls) (resolved_package name texts decls order)
+    (name : List ℕ) (texts : List (List ℕ)) (decls : List DeclTree) (order struct_order : List ℕ) → AreDistinct texts → Decides (Breaks (declared texts decls)) None
+    → ResolvesPackage (declared texts decls) (resolved_package name texts decls order struct_order)
 
 -- And for every package that is read and keeps the rules of names.
 abbrev pub ReadPackagesAreResolved : Type 0
 ReadPackagesAreResolved =
     (name : List ℕ) (files : List (List ℕ)) (read : Parsed) → IsParsed name files read → ((refusal : Refusal) → Breaks (declared read.texts (decls_of read)) refusal → ⊥)
-    → (order : List ℕ) → ResolvesPackage (declared read.texts (decls_of read)) (resolved_package read.name read.texts (decls_of read) order)
+    → (order struct_order : List ℕ) → ResolvesPackage (declared read.texts (decls_of read)) (resolved_package read.name read.texts (decls_of read) order struct_order)

@@ -2,14 +2,14 @@
 use Rattle.std.proofs.Common.{◌≡◌, ℕ, zero, suc, List, [], ◌∷◌, map, slice_get, Bool, Option, None, Some, is_some, nat_eq, refl, sym, ap, ◌∙◌}
 use Rattle.std.specs.List.{position_from}
 use Rattle.indexmap.specs.IndexMap.{get}
-use Rattle.indexmap.specs.IndexSet.{IndexSet}
+use Rattle.wf_names_rules.specs.declared.tables.MethodVariables.{MethodVariables}
 use Rattle.wf_names_rules.specs.declared.tables.Tables.{Tables}
 use Rattle.wf_names_rules.specs.declared.tables.Scope.{Scope as ScopeTables}
 use Rattle.wf_names_rules.specs.Declarations.{Method, Declared, is_spelt}
 use Rattle.wf_names_rules.specs.Uses.{Scope}
 use Rattle.wf_names_rules.specs.Meanings.{Known, known_at, sort_in, fields_known, method_known, public_in, args_in}
-use Rattle.wf_names_rules.specs.Tables.{known_by, number_at, field_at, own_method_at, flag_in, names_in}
-use Rattle.wf_names_scopes.specs.Agreeing.{Agree, TellsPackage, TellsScope}
+use Rattle.wf_names_rules.specs.Tables.{known_by, number_at, field_at, own_method_at, flag_in, arg_names_in}
+use Rattle.wf_names_scopes.specs.Agreeing.{Agree, TellMethods, TellsPackage, TellsScope}
 use Rattle.wf_names_scopes.proofs.ConstantLemmas.{constant-sort}
 use Rattle.wf_names_scopes.proofs.FirstLemmas.{position_any}
 use Rattle.wf_names_scopes.proofs.MethodLemmas.{local-sorts, arg-sorts}
@@ -20,19 +20,12 @@ public_at_place [] m = refl
 public_at_place (x ∷ xs) zero = refl
 public_at_place (x ∷ xs) (suc m) = public_at_place xs m
 
-abbrev list_in : Option (List ℕ) → List ℕ
-list_in None = []
-list_in (Some list) = list
-
-names_at_place : {S : Type 0} (sets : List (IndexSet ℕ S)) (m : ℕ) → names_in (slice_get sets m) ≡ list_in (slice_get (map (λ s. s.keys) sets) m)
-names_at_place [] m = refl
-names_at_place (x ∷ xs) zero = refl
-names_at_place (x ∷ xs) (suc m) = names_at_place xs m
-
-args_at_place : (ms : List Method) (m : ℕ) → list_in (slice_get (map (λ m. args_in (Some m)) ms) m) ≡ args_in (slice_get ms m)
-args_at_place [] m = refl
-args_at_place (x ∷ xs) zero = refl
-args_at_place (x ∷ xs) (suc m) = args_at_place xs m
+names_at_place : (texts : List (List ℕ)) (ms : List Method) (ts : List MethodVariables) (m : ℕ) → TellMethods texts ms ts → arg_names_in (slice_get ts m) ≡ args_in (slice_get ms m)
+names_at_place texts [] [] m h = refl
+names_at_place texts (x ∷ xs) (t ∷ ts) zero h = h.0.args.names
+names_at_place texts (x ∷ xs) (t ∷ ts) (suc m) h = names_at_place texts xs ts m h.1
+names_at_place texts [] (t ∷ ts) m h = absurd h
+names_at_place texts (x ∷ xs) [] m h = absurd h
 
 -- A name has a number wherever the first is counted from.
 numbered : {X : Type 0} (p : X → Bool) (first : ℕ) (xs : List X) (o : Option ℕ) → o ≡ position_from p first xs → is_some o ≡ is_some (position_from p 0 xs)
@@ -52,7 +45,7 @@ agree_by d scope t s p q = record {
   struct_method = p.methods;
   is_method = p.method_names;
   is_public = λ m. ap (λ flags. flag_in (slice_get flags m)) p.publics ∙ public_at_place d.methods m;
-  args = λ m. names_at_place t.args.items m ∙ ap (λ lists. list_in (slice_get lists m)) p.args ∙ args_at_place d.methods m;
+  args = λ m. names_at_place d.texts d.methods t.variables.items m p.variables;
 }
   where
     field : (this : Option ℕ) (text : ℕ) → field_at t this text ≡ sort_in d (fields_known d this) text

@@ -5,8 +5,7 @@ use Rattle.wf_ast.specs.ParsedParts.{Parsed}
 use Rattle.wf_ast.specs.ParsedTree.{ExprTree, StmtTree, DeclTree}
 use Rattle.wf_ast.specs.ParsedTrees.{expr_trees, stmt_trees, decl_made, decls_made}
 use Rattle.wf_ast.proofs.TreeLemmas.{slice_get-seam}
-use Rattle.wf_names_rules.specs.Declarations.{Method, Declared, methods_of}
-use Rattle.wf_names_scopes.specs.Agreeing.{package_of}
+use Rattle.wf_names_rules.specs.Declarations.{Method, Declared, methods_of, declared_in}
 use Rattle.wf_names_scopes.specs.CallRows.{AreRowsInFront}
 use Rattle.wf_names_scopes.specs.Growing.{AreLeft, AreNext}
 use Rattle.wf_names_scopes.proofs.PackageLemmas.{methods_append, trees_made}
@@ -47,5 +46,5 @@ pub rows-left : (d : Declared) (rows : List (List ℕ)) (left : List Method) →
 rows-left d rows left h = record { front = h.front; whole = h.whole; long = sym h.made.len }
 
 -- At the beginning all are left.
-pub all-left : (p : Parsed) (n : ℕ) → n ≡ 0 → AreLeft (package_of p) n (methods_of (decls_made (expr_trees p.exprs) (stmt_trees p.exprs p.stmts) p.decls))
+pub all-left : (p : Parsed) (n : ℕ) → n ≡ 0 → AreLeft (declared_in p) n (methods_of (decls_made (expr_trees p.exprs) (stmt_trees p.exprs p.stmts) p.decls))
 all-left p n e = record { front = []; whole = ap methods_of (trees_made p); long = sym e }

@@ -1,22 +1,38 @@
 -- Tables that grow by one name at a time.
-use Rattle.std.proofs.Common.{◌≡◌, ℕ, ◌+◌, Bool, cond, List, [], ◌∷◌, ◌++◌, Option, Some, None, nat_eq, option_map, sym, ap, ◌∙◌, length-append, arith}
+use Rattle.std.proofs.Common.{◌≡◌, ℕ, ◌+◌, Bool, true, false, cond, if◌then◌else◌, List, [], ◌∷◌, ◌++◌, Option, Some, None, is_some, nat_eq, option_map, refl, sym, ap, ◌∙◌, length-append, arith}
 use Rattle.std.specs.Option.{option_or}
 use Rattle.std.specs.List.{position_from}
-use Rattle.std.specs.Map.{lookup}
-use Rattle.indexmap.specs.IndexMap.{IndexMap, IsEmpty, get}
+use Rattle.std.specs.Map.{keys_of}
+use Rattle.indexmap.specs.IndexMap.{IndexMap, get, keys, insert_entry}
+use Rattle.indexmap.specs.IndexSet.{insert_key}
+use Rattle.indexmap.proofs.CallerLemmas.{insert_entry-new}
 use Rattle.wf_ast.specs.declared.parsed.Name.{Name}
 use Rattle.wf_names_rules.specs.declared.sorts.Sort.{Sort}
 use Rattle.wf_names_rules.specs.declared.tables.Entry.{Entry}
 use Rattle.wf_names_rules.specs.declared.tables.Numbers.{Numbers}
 use Rattle.wf_names_rules.specs.Declarations.{is_spelt}
 use Rattle.wf_names_rules.specs.Tables.{number_at}
+use Rattle.wf_names_rules.proofs.InsertLemmas.{known_names}
 use Rattle.wf_names_scopes.specs.Agreeing.{TellsNumbers}
 use Rattle.wf_names_scopes.specs.Growing.{with_first}
-use Rattle.wf_names_scopes.proofs.FirstLemmas.{mapped, position_pushed}
+use Rattle.wf_names_scopes.proofs.FirstLemmas.{mapped, position_pushed, map_pushed}
 
--- A table with no entries.
-pub nothing_yet : {K X S : Type 0} (same : K → K → Bool) (table : IndexMap K X S) → IsEmpty table → (key : K) → get same table key ≡ None
-nothing_yet same table e key = ap (lookup (same key)) e
+-- The names of the entries, after one that is known already and after one that is new.
+module _ {K X S : Type 0} (same : K → K → Bool) (table : IndexMap K X S) (key : K) where
+  pub name_kept : is_some (get same table key) ≡ true → keys table ≡ insert_key same (keys table) key
+  name_kept there =
+      let known = known_names (same key) table.entries ∙ there in
+      sym (ap (λ b. if b then keys table else keys table ++ key ∷ []) known)
+
+  pub name_put : (value : X) (new : List (K × X)) → is_some (get same table key) ≡ false → new ≡ insert_entry same table.entries key value → keys_of new ≡ insert_key same (keys table) key
+  name_put value new fresh made =
+      let unknown = known_names (same key) table.entries ∙ fresh in
+      ap keys_of (made ∙ insert_entry-new same table key value (none (get same table key) fresh)) ∙ map_pushed (λ e. e.0) table.entries (key, value)
+      ∙ sym (ap (λ b. if b then keys table else keys table ++ key ∷ []) unknown)
+    where
+      none : (o : Option X) → is_some o ≡ false → o ≡ None
+      none None h = refl
+      none (Some x) h = absurd (cc h)
 
 -- What is told of the entries, after one more; `old` and `new` are what the table answers before it and after it.
 module _ {K : Type 0} (same : K → K → Bool) (old new : K → Option Entry) (key : K) (entry : Entry) (put : (other : K) → new other ≡ with_first same old key entry other) where

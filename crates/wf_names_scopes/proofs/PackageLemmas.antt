@@ -2,7 +2,6 @@
 use Rattle.std.proofs.Common.{◌≡◌, ℕ, zero, suc, ◌+◌, ◌≤◌, Bool, true, false, not, cond, ◌&&◌, ◌||◌, List, [], ◌∷◌, ◌++◌, map, length, take, slice_get, Option, Some, None, is_some, nat_eq, Result, Ok, Err, OnOk, refl, sym, ap, ◌∙◌, subst, append_assoc, append-nil, length-append, arith, take_all, Vec, vec_len}
 use Rattle.std.specs.Option.{option_or}
 use Rattle.std.specs.List.{find, position_from, list_any}
-use Rattle.indexmap.specs.IndexSet.{IndexSet, insert_all}
 use Rattle.wf_text.specs.declared.faults.NoMemory.{NoMemory}
 use Rattle.wf_text.specs.declared.place.Place.{Place}
 use Rattle.wf_ast.specs.declared.parsed.DeclNode.{DeclNode}
@@ -18,12 +17,11 @@ use Rattle.wf_names_rules.specs.declared.tables.Numbers.{Numbers}
 use Rattle.wf_names_rules.specs.declared.tables.Tables.{Tables}
 use Rattle.wf_names_rules.specs.declared.tables.MethodVariables.{MethodVariables}
 use Rattle.wf_names_rules.specs.declared.tables.Variables.{Variables}
-use Rattle.wf_names_rules.specs.Declarations.{Variable, Constant, Structure, Method, Declared, declared, variables, as_variable, statuses_of, constants_of, structs_of, methods_of, is_spelt, struct_named, method_named, structure_in, fields_in, fields_of, locals_of}
-use Rattle.wf_names_rules.specs.Meanings.{args_in}
+use Rattle.wf_names_rules.specs.Declarations.{Variable, Constant, Structure, Method, Declared, declared, variables, as_variable, statuses_of, constants_of, structs_of, methods_of, is_spelt, struct_named, method_named, structure_in, fields_in, fields_of, locals_of, declared_in}
 use Rattle.wf_names_rules.specs.Pairs.{Pair, same_pair}
 use Rattle.wf_names_rules.specs.Tables.{has_number}
 use Rattle.graphs.proofs.NumberLemmas.{same_number}
-use Rattle.wf_names_scopes.specs.Agreeing.{TellsNumbers, TellsVariables, TellsPackage, TellsMethod, TellMethods, package_of}
+use Rattle.wf_names_scopes.specs.Agreeing.{TellsNumbers, TellsVariables, TellsPackage, TellsMethod, TellMethods}
 use Rattle.wf_names_scopes.specs.Growing.{with_first, with_fields, with_status, with_constant, with_struct, with_method}
 use Rattle.wf_names_scopes.proofs.FirstLemmas.{or_none, position_pushed, position_any, find_any, find_pushed, any_pushed, map_pushed, map_length}
 use Rattle.wf_names_scopes.proofs.MethodLemmas.{tell-more}
@@ -155,9 +153,9 @@ pub both_ok : {P Q R : Type 0} (r : Result (Unit {0}) NoMemory) → (P → Q →
 both_ok (Ok u) f h k = f h k
 both_ok (Err e) f h k = h
 
-pub all_ok : {P Q R S : Type 0} (r : Result (Unit {0}) NoMemory) → (P → Q → R → S) → OnOk r P → OnOk r Q → OnOk r R → OnOk r S
-all_ok (Ok u) f h k l = f h k l
-all_ok (Err e) f h k l = h
+pub all_ok : {P Q R S T : Type 0} (r : Result (Unit {0}) NoMemory) → (P → Q → R → S → T) → OnOk r P → OnOk r Q → OnOk r R → OnOk r S → OnOk r T
+all_ok (Ok u) f h k l m = f h k l m
+all_ok (Err e) f h k l m = h
 
 -- A status, a constant, a struct and a method after those that the tables tell.
 pub status_more : (texts : List (List ℕ)) (t u : Tables) (public : Bool) (name : Name) (at : Place) → ((d : Declared) → TellsPackage d t → TellsPackage (with_status d name) u)
@@ -231,21 +229,9 @@ module _ (d : Declared) (m : Method) where
   public_added public old new is e k =
       e ∙ ap (λ xs. xs ++ public ∷ []) k ∙ ap (λ b. map (λ m. m.public) d.methods ++ b ∷ []) (sym is) ∙ sym (map_pushed (λ m. m.public) d.methods m)
 
-  pub args_added : {S : Type 0} (old new : List (IndexSet ℕ S)) (names : IndexSet ℕ S) → new ≡ old ++ names ∷ [] → names.keys ≡ args_in (Some m)
-      → map (λ s. s.keys) old ≡ map (λ m. args_in (Some m)) d.methods → map (λ s. s.keys) new ≡ map (λ m. args_in (Some m)) (d.methods ++ m ∷ [])
-  args_added {S} old new names e own k =
-      let keys_of : IndexSet ℕ S → List ℕ = λ s. s.keys in
-      ap (map keys_of) e ∙ map_pushed keys_of old names ∙ ap (λ xs. xs ++ names.keys ∷ []) k ∙ ap (λ x. map (λ m. args_in (Some m)) d.methods ++ x ∷ []) own
-      ∙ sym (map_pushed (λ m. args_in (Some m)) d.methods m)
-
   pub variables_added : (old new : List MethodVariables) (known : MethodVariables) → new ≡ old ++ known ∷ [] → TellsMethod d.texts m known → TellMethods d.texts d.methods old
       → TellMethods d.texts (d.methods ++ m ∷ []) new
   variables_added old new known e tells k = subst (TellMethods d.texts (d.methods ++ m ∷ [])) (sym e) (tell-more d.texts d.methods old m known k tells)
-
--- The names of arguments by the method.
-pub own_names : (es : List ExprTree) (args : List Field) (m : Method) (keys : List ℕ) → m.args ≡ variables (fields_at es args)
-    → keys ≡ insert_all nat_eq [] (map (λ v. v.name.text.0) (variables (fields_at es args))) → keys ≡ args_in (Some m)
-own_names es args m keys is e = e ∙ ap (λ (vs : List Variable). insert_all nat_eq [] (map (λ v. v.name.text.0) vs)) (sym is)
 
 pub taken : (fresh before : Bool) → fresh ≡ not before → fresh ≡ false → before ≡ true
 taken fresh true e f = refl
@@ -283,7 +269,7 @@ node_next p i x t u at tells step =
     subst P (sym (ap (decls_made es ts) (take_at p.decls i x at) ∙ made_append es ts (take i p.decls) (x ∷ []))) (step (decls_made es ts (take i p.decls)) tells)
 
 pub nodes_done : (p : Parsed) (i : ℕ) (t : Tables) → length p.decls ≤ i
-    → TellsPackage (declared p.texts (decls_made (expr_trees p.exprs) (stmt_trees p.exprs p.stmts) (take i p.decls))) t → TellsPackage (package_of p) t
+    → TellsPackage (declared p.texts (decls_made (expr_trees p.exprs) (stmt_trees p.exprs p.stmts) (take i p.decls))) t → TellsPackage (declared_in p) t
 nodes_done p i t h tells =
     let P : List DeclTree → Type 0 = λ ds. TellsPackage (declared p.texts ds) t in
     let whole : take i p.decls ≡ p.decls = take_all i p.decls h in

@@ -7,13 +7,13 @@ use Rattle.wf_ast.specs.ParsedTree.{ExprTree, StmtTree, DeclTree}
 use Rattle.wf_ast.specs.ParsedTrees.{expr_trees, stmt_trees, type_at, fields_at, decl_made, decls_made}
 use Rattle.wf_names_rules.specs.declared.tables.Tables.{Tables}
 use Rattle.wf_names_rules.specs.declared.tables.Scope.{Scope as ScopeTables}
-use Rattle.wf_names_rules.specs.Declarations.{Method, Declared, variables, methods_of}
+use Rattle.wf_names_rules.specs.Declarations.{Method, Declared, variables, methods_of, declared_in}
 use Rattle.wf_names_rules.specs.Uses.{Use, Scope, method_scope, method_uses, type_uses, variable_uses}
 use Rattle.wf_names_rules.specs.Meanings.{Known, known_at}
 use Rattle.wf_names_rules.specs.Tables.{known_by}
 use Rattle.wf_names_rules.proofs.CalledLemmas.{rows_append}
 use Rattle.wf_names_rules.proofs.WalkLemmas.{drop-one}
-use Rattle.wf_names_scopes.specs.Agreeing.{package_of, TellsPackage, TellsScope}
+use Rattle.wf_names_scopes.specs.Agreeing.{TellsPackage, TellsScope}
 use Rattle.wf_names_scopes.proofs.AgreeLemmas.{agree_by, agree_same}
 use Rattle.wf_names_scopes.proofs.PackageLemmas.{trees_made, methods_append}
 use Rattle.wf_names_scopes.proofs.UseLemmas.{drop_at}
@@ -31,10 +31,10 @@ field-called k row next es fields i x is h e =
     ∙ sym (ap (λ l. with_calls k row (variable_uses (variables (fields_at es l)))) split)
 
 -- What tables find called that tell the package and the scope is called there.
-pub called-there : (p : Parsed) (t : Tables) (s : ScopeTables) (scope : Scope) (old new : List ℕ) (us : List Use) → TellsPackage (package_of p) t → TellsScope (package_of p) scope s
-    → new ≡ with_calls (known_by p.texts t s) old us → new ≡ with_calls (known_at (package_of p) scope) old us
+pub called-there : (p : Parsed) (t : Tables) (s : ScopeTables) (scope : Scope) (old new : List ℕ) (us : List Use) → TellsPackage (declared_in p) t → TellsScope (declared_in p) scope s
+    → new ≡ with_calls (known_by p.texts t s) old us → new ≡ with_calls (known_at (declared_in p) scope) old us
 called-there p t s scope old new us tells known e =
-    e ∙ ap (λ k. with_calls k old us) (agree_same (known_by p.texts t s) (known_at (package_of p) scope) (agree_by (package_of p) scope t s tells known))
+    e ∙ ap (λ k. with_calls k old us) (agree_same (known_by p.texts t s) (known_at (declared_in p) scope) (agree_by (declared_in p) scope t s tells known))
 
 -- One method more.
 pub method-added : (d : Declared) (m : Method) (old new : List (List ℕ)) (row : List ℕ) → row ≡ called_in (known_at d (method_scope d m)) (method_uses m) → new ≡ old ++ row ∷ []
@@ -46,11 +46,11 @@ method-added d m old new row made pushed left h =
 
 -- Where the loop over the declarations begins and goes on.
 pub rows-begun : (p : Parsed) (rows : List (List ℕ)) → rows ≡ []
-    → AreRowsInFront (package_of p) rows (methods_of (decls_made (expr_trees p.exprs) (stmt_trees p.exprs p.stmts) p.decls))
+    → AreRowsInFront (declared_in p) rows (methods_of (decls_made (expr_trees p.exprs) (stmt_trees p.exprs p.stmts) p.decls))
 rows-begun p rows e =
-    let P : List DeclTree → Type 0 = λ ds. AreRowsInFront (package_of p) [] (methods_of ds) in
-    let Q : List (List ℕ) → Type 0 = λ rs. AreRowsInFront (package_of p) rs (methods_of (decls_made (expr_trees p.exprs) (stmt_trees p.exprs p.stmts) p.decls)) in
-    subst Q (sym e) (subst P (trees_made p) (front-none (package_of p)))
+    let P : List DeclTree → Type 0 = λ ds. AreRowsInFront (declared_in p) [] (methods_of ds) in
+    let Q : List (List ℕ) → Type 0 = λ rs. AreRowsInFront (declared_in p) rs (methods_of (decls_made (expr_trees p.exprs) (stmt_trees p.exprs p.stmts) p.decls)) in
+    subst Q (sym e) (subst P (trees_made p) (front-none (declared_in p)))
 
 pub rows-next : (d : Declared) (es : List ExprTree) (ts : List StmtTree) (decls : List DeclNode) (i : ℕ) (n : DeclNode) → slice_get decls i ≡ Some n → (old new : List (List ℕ))
     → ((left : List Method) → AreRowsInFront d old (methods_of (decl_made es ts n.public n.decl n.at ∷ []) ++ left) → AreRowsInFront d new left)

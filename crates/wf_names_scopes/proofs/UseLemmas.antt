@@ -11,14 +11,14 @@ use Rattle.wf_ast.specs.ParsedTrees.{expr_trees, stmt_trees, decl_made, decls_ma
 use Rattle.wf_names_rules.specs.declared.seen.Seen.{Seen}
 use Rattle.wf_names_rules.specs.declared.tables.Tables.{Tables}
 use Rattle.wf_names_rules.specs.declared.tables.Scope.{Scope as ScopeTables}
-use Rattle.wf_names_rules.specs.Declarations.{Variable, Constant, Structure, Method, Declared, variables, as_variable, constants_of, structs_of, methods_of}
+use Rattle.wf_names_rules.specs.Declarations.{Variable, Constant, Method, Declared, variables, as_variable, constants_of, structs_of, methods_of, declared_in}
 use Rattle.wf_names_rules.specs.Uses.{Use, Scope, Site, sites_in, constant_scope, constant_sites, struct_sites, method_sites, type_uses, uses_of, variable_uses}
 use Rattle.wf_names_rules.specs.Meanings.{Known, known_at}
 use Rattle.wf_names_rules.specs.Tables.{known_by}
 use Rattle.wf_names_rules.specs.Jumps.{method_labels, labels_found}
 use Rattle.wf_names_rules.specs.Judged.{judged, walked, walked_one}
 use Rattle.wf_names_rules.proofs.WalkLemmas.{walked-append, drop-one}
-use Rattle.wf_names_scopes.specs.Agreeing.{AreFirstConstants, TellsPackage, TellsScope, TellsConstants, package_of}
+use Rattle.wf_names_scopes.specs.Agreeing.{TellsPackage, TellsScope}
 use Rattle.wf_names_scopes.specs.Growing.{AreConstantsPassed}
 use Rattle.wf_names_scopes.specs.UsesFound.{sites_judged, uses_found}
 use Rattle.wf_names_scopes.proofs.AgreeLemmas.{agree_by, agree_same}
@@ -35,11 +35,11 @@ walked_sites d scope seen [] = refl
 walked_sites d scope seen (u ∷ us) = walked_sites d scope (walked_one (known_at d scope) seen u) us
 
 -- So does a walk by tables that tell the package and the scope.
-pub walk_judged : (p : Parsed) (t : Tables) (s : ScopeTables) (scope : Scope) (seen all : Seen) (us : List Use) → TellsPackage (package_of p) t → TellsScope (package_of p) scope s
-    → all ≡ walked (known_by p.texts t s) seen us → all.found ≡ sites_judged (package_of p) seen.found (sites_in scope us)
+pub walk_judged : (p : Parsed) (t : Tables) (s : ScopeTables) (scope : Scope) (seen all : Seen) (us : List Use) → TellsPackage (declared_in p) t → TellsScope (declared_in p) scope s
+    → all ≡ walked (known_by p.texts t s) seen us → all.found ≡ sites_judged (declared_in p) seen.found (sites_in scope us)
 walk_judged p t s scope seen all us tells known e =
-    ap (λ a. a.found) e ∙ ap (λ k. (walked k seen us).found) (agree_same (known_by p.texts t s) (known_at (package_of p) scope) (agree_by (package_of p) scope t s tells known))
-    ∙ walked_sites (package_of p) scope seen us
+    ap (λ a. a.found) e ∙ ap (λ k. (walked k seen us).found) (agree_same (known_by p.texts t s) (known_at (declared_in p) scope) (agree_by (declared_in p) scope t s tells known))
+    ∙ walked_sites (declared_in p) scope seen us
 
 -- The types of fields.
 pub field_walked : (k : Known) (es : List ExprTree) (seen next : Seen) (fields : List Field) (i : ℕ) (x : Field) → x ≡ slice_index_or fields i x → i < length fields
@@ -148,40 +148,24 @@ module _ (es : List ExprTree) (ts : List StmtTree) (decls : List DeclNode) (i : 
       ∙ sym (ap (fold f found) (ap methods_of from_here ∙ methods_append (made ∷ []) rest))
 
 -- Where the walk over the declarations begins and ends.
-pub constants_begun : (p : Parsed) (found : Option Refusal) (t : ScopeTables) → TellsScope (package_of p) (constant_scope []) t
-    → AreConstantsPassed (package_of p) found found (constants_of (decls_made (expr_trees p.exprs) (stmt_trees p.exprs p.stmts) p.decls)) t
+pub constants_begun : (p : Parsed) (found : Option Refusal) (t : ScopeTables) → TellsScope (declared_in p) (constant_scope []) t
+    → AreConstantsPassed (declared_in p) found found (constants_of (decls_made (expr_trees p.exprs) (stmt_trees p.exprs p.stmts) p.decls)) t
 constants_begun p found t h =
-    let P : List DeclTree → Type 0 = λ ds. AreConstantsPassed (package_of p) found found (constants_of ds) t in
+    let P : List DeclTree → Type 0 = λ ds. AreConstantsPassed (declared_in p) found found (constants_of ds) t in
     subst P (trees_made p) (record { known = []; tells = h; split = refl; same = refl })
 
-pub constants_done : (d : Declared) (began found : Option Refusal) (es : List ExprTree) (ts : List StmtTree) (decls : List DeclNode) (i : ℕ) (t : ScopeTables) → length decls ≤ i
-    → AreConstantsPassed d began found (constants_of (decls_made es ts (drop i decls))) t → (found ≡ sites_judged d began (constant_sites [] d.constants)) × TellsConstants d t
-constants_done d began found es ts decls i t h a =
-    let P : List DeclNode → Type 0 = λ ns. AreConstantsPassed d began found (constants_of (decls_made es ts ns)) t in
-    let b = subst P (past_end decls i h) a in
-    let Q : List Variable → Type 0 = λ vs. AreFirstConstants d vs t.constants in
-    (b.same, subst Q (sym (append-nil b.known) ∙ b.split) b.tells.constants)
-
 pub structs_begun : (p : Parsed) (found : Option Refusal)
-    → sites_judged (package_of p) found (flat_map (struct_sites (package_of p)) (structs_of (decls_made (expr_trees p.exprs) (stmt_trees p.exprs p.stmts) p.decls)))
-    ≡ sites_judged (package_of p) found (flat_map (struct_sites (package_of p)) (package_of p).structs)
-structs_begun p found = ap (λ ds. sites_judged (package_of p) found (flat_map (struct_sites (package_of p)) (structs_of ds))) (sym (trees_made p))
-
-pub structs_done : (d : Declared) (found : Option Refusal) (es : List ExprTree) (ts : List StmtTree) (decls : List DeclNode) (i : ℕ) → length decls ≤ i
-    → found ≡ sites_judged d found (flat_map (struct_sites d) (structs_of (decls_made es ts (drop i decls))))
-structs_done d found es ts decls i h = ap (λ ns. sites_judged d found (flat_map (struct_sites d) (structs_of (decls_made es ts ns)))) (sym (past_end decls i h))
+    → sites_judged (declared_in p) found (flat_map (struct_sites (declared_in p)) (structs_of (decls_made (expr_trees p.exprs) (stmt_trees p.exprs p.stmts) p.decls)))
+    ≡ sites_judged (declared_in p) found (flat_map (struct_sites (declared_in p)) (declared_in p).structs)
+structs_begun p found = ap (λ ds. sites_judged (declared_in p) found (flat_map (struct_sites (declared_in p)) (structs_of ds))) (sym (trees_made p))
 
 pub methods_begun : (p : Parsed) (found : Option Refusal)
-    → sites_judged (package_of p) found (flat_map (method_sites (package_of p)) (methods_of (decls_made (expr_trees p.exprs) (stmt_trees p.exprs p.stmts) p.decls)))
-    ≡ sites_judged (package_of p) found (flat_map (method_sites (package_of p)) (package_of p).methods)
-methods_begun p found = ap (λ ds. sites_judged (package_of p) found (flat_map (method_sites (package_of p)) (methods_of ds))) (sym (trees_made p))
-
-pub methods_done : (d : Declared) (found : Option Refusal) (es : List ExprTree) (ts : List StmtTree) (decls : List DeclNode) (i : ℕ) → length decls ≤ i
-    → found ≡ sites_judged d found (flat_map (method_sites d) (methods_of (decls_made es ts (drop i decls))))
-methods_done d found es ts decls i h = ap (λ ns. sites_judged d found (flat_map (method_sites d) (methods_of (decls_made es ts ns)))) (sym (past_end decls i h))
+    → sites_judged (declared_in p) found (flat_map (method_sites (declared_in p)) (methods_of (decls_made (expr_trees p.exprs) (stmt_trees p.exprs p.stmts) p.decls)))
+    ≡ sites_judged (declared_in p) found (flat_map (method_sites (declared_in p)) (declared_in p).methods)
+methods_begun p found = ap (λ ds. sites_judged (declared_in p) found (flat_map (method_sites (declared_in p)) (methods_of ds))) (sym (trees_made p))
 
 pub labels_begun : (p : Parsed) (found : Option Refusal)
-    → fold (method_labels p.texts) found (methods_of (decls_made (expr_trees p.exprs) (stmt_trees p.exprs p.stmts) p.decls)) ≡ labels_found (package_of p) found
+    → fold (method_labels p.texts) found (methods_of (decls_made (expr_trees p.exprs) (stmt_trees p.exprs p.stmts) p.decls)) ≡ labels_found (declared_in p) found
 labels_begun p found = ap (λ ds. fold (method_labels p.texts) found (methods_of ds)) (sym (trees_made p))
 
 -- A declaration that is a constant, and one that isn't.
@@ -193,10 +177,6 @@ pub no_constant : (t : ScopeTables) (d : Declared) (known left : List Variable) 
 no_constant t d known left split h =
     let P : List Variable → Type 0 = λ vs. TellsScope d (constant_scope vs) t in
     subst P (sym (append-nil known)) h
-
--- One struct, and one method.
-pub struct_alone : (d : Declared) (found all : Option Refusal) (s : Structure) → all ≡ sites_judged d found (struct_sites d s) → all ≡ sites_judged d found (flat_map (struct_sites d) (s ∷ []))
-struct_alone d found all s e = e ∙ ap (λ x. sites_judged d found x) (sym (append-nil (struct_sites d s)))
 
 pub method_alone : (d : Declared) (found all : Option Refusal) (m : Method) → all ≡ sites_judged d found (method_sites d m) → all ≡ sites_judged d found (flat_map (method_sites d) (m ∷ []))
 method_alone d found all m e = e ∙ ap (λ x. sites_judged d found x) (sym (append-nil (method_sites d m)))
@@ -210,9 +190,6 @@ whole_walk d found first second third a b c =
     let methods = flat_map (method_sites d) d.methods in
     c ∙ ap (λ f. sites_judged d f methods) (b ∙ ap (λ f. sites_judged d f structs) a) ∙ sym (sites_judged-append d (sites_judged d found constants) structs methods)
     ∙ sym (sites_judged-append d found constants (structs ++ methods))
-
-pub ok_equal : {X : Type 0} (r : Result X NoMemory) (s t : X) → s ≡ t → IfOk r (λ all. all ≡ s) → IfOk r (λ all. all ≡ t)
-ok_equal {X} r s t e h = let P : X → Type 0 = λ u. IfOk r (λ all. all ≡ u) in subst P e h
 
 pub if_ok : {X : Type 0} (P Q : X → Type 0) (r : Result X NoMemory) → ((x : X) → P x → Q x) → IfOk r P → IfOk r Q
 if_ok P Q (Ok x) f h = f x h

@@ -1,7 +1,8 @@
 -- Tables of variables that grow by one at a time.
-use Rattle.std.proofs.Common.{◌≡◌, ℕ, ◌+◌, ◌<◌, Bool, true, false, cond, List, [], ◌∷◌, ◌++◌, length, drop, slice_index_or, Some, None, nat_eq, option_map, refl, sym, ap, ◌∙◌, subst, append_assoc, length-append, arith}
+use Rattle.std.proofs.Common.{◌≡◌, ℕ, ◌+◌, ◌<◌, Bool, true, false, cond, List, [], ◌∷◌, ◌++◌, map, length, drop, slice_index_or, Some, None, nat_eq, option_map, refl, sym, ap, ◌∙◌, subst, append_assoc, length-append, arith}
 use Rattle.std.specs.Option.{option_or}
 use Rattle.std.specs.List.{find}
+use Rattle.indexmap.specs.IndexSet.{insert_key, insert_all}
 use Rattle.wf_text.specs.declared.place.Place.{Place}
 use Rattle.wf_ast.specs.declared.numbers.StmtId.{StmtId}
 use Rattle.wf_ast.specs.declared.parsed.Field.{Field}
@@ -10,12 +11,12 @@ use Rattle.wf_ast.specs.ParsedTrees.{type_at, fields_at, stmt_at, items_at}
 use Rattle.wf_names_rules.specs.declared.sorts.Sort.{Sort}
 use Rattle.wf_names_rules.specs.declared.tables.Variables.{Variables}
 use Rattle.wf_names_rules.specs.Declarations.{Variable, variables, local_of, locals_of, bytes_of, is_spelt, place_in}
-use Rattle.wf_names_rules.specs.Meanings.{sort_of}
-use Rattle.wf_names_rules.specs.Tables.{sort_at, place_at}
+use Rattle.wf_names_rules.specs.Meanings.{sort_of, names_once}
+use Rattle.wf_names_rules.specs.Tables.{sort_at, place_at, names_known}
 use Rattle.wf_names_rules.proofs.WalkLemmas.{drop-one}
 use Rattle.wf_names_scopes.specs.Agreeing.{TellsVariables, sort_among}
 use Rattle.wf_names_scopes.specs.Growing.{with_first, TellsUpTo}
-use Rattle.wf_names_scopes.proofs.FirstLemmas.{position_pushed}
+use Rattle.wf_names_scopes.proofs.FirstLemmas.{position_pushed, map_pushed}
 
 -- What is meant after one more variable.
 pub sort_pushed : (texts : List (List ℕ)) (front : List Variable) (v : Variable) (text : ℕ)
@@ -33,11 +34,21 @@ sort_pushed texts (u ∷ us) v text = by (nat_eq u.name.text.0 text) (sort_pushe
     by true r = refl
     by false r = r
 
+-- The names after one more variable.
+all_pushed : (ks xs : List ℕ) (x : ℕ) → insert_all nat_eq ks (xs ++ x ∷ []) ≡ insert_key nat_eq (insert_all nat_eq ks xs) x
+all_pushed ks [] x = refl
+all_pushed ks (y ∷ ys) x = all_pushed (insert_key nat_eq ks y) ys x
+
+once_pushed : (front : List Variable) (v : Variable) → names_once (front ++ v ∷ []) ≡ insert_key nat_eq (names_once front) v.name.text.0
+once_pushed front v =
+    let text_of : Variable → ℕ = λ u. u.name.text.0 in
+    ap (insert_all nat_eq []) (map_pushed text_of front v) ∙ all_pushed [] (map text_of front) v.name.text.0
+
 pub variable_added : (texts : List (List ℕ)) (old new : Variables) (v : Variable) (s : Sort) → s ≡ sort_of (bytes_of texts) v.of → new.next ≡ old.next + 1
     → ((text : ℕ) → sort_at new text ≡ with_first nat_eq (sort_at old) v.name.text.0 s text)
-    → ((text : ℕ) → place_at new text ≡ with_first nat_eq (place_at old) v.name.text.0 old.next text)
+    → ((text : ℕ) → place_at new text ≡ with_first nat_eq (place_at old) v.name.text.0 old.next text) → names_known new ≡ insert_key nat_eq (names_known old) v.name.text.0
     → (front : List Variable) → TellsVariables texts front old → TellsVariables texts (front ++ v ∷ []) new
-variable_added texts old new v s e next sorts places front t =
+variable_added texts old new v s e next sorts places names front t =
     let count : old.next ≡ 0 + length front = omega (arith, t.next) in
     record {
       next = omega (arith, next, t.next, length-append front (v ∷ []));
@@ -47,6 +58,7 @@ variable_added texts old new v s e next sorts places front t =
       places = λ text.
           places text ∙ ap (λ o. option_or o (cond (nat_eq v.name.text.0 text) (Some old.next) None)) (t.places text)
           ∙ ap (λ n. option_or (place_in front text) (cond (nat_eq v.name.text.0 text) (Some n) None)) count ∙ sym (position_pushed (λ w. is_spelt text w.name) 0 front v);
+      names = names ∙ ap (λ ks. insert_key nat_eq ks v.name.text.0) t.names ∙ sym (once_pushed front v);
     }
 
 up_to_more : (texts : List (List ℕ)) (vs rest whole : List Variable) (old new : Variables) → TellsUpTo texts (vs ++ rest) whole old

@@ -9,12 +9,10 @@ use Rattle.wf_names_rules.specs.declared.tables.MethodVariables.{MethodVariables
 use Rattle.wf_names_rules.specs.declared.tables.Tables.{Tables}
 use Rattle.wf_names_rules.specs.declared.tables.Scope.{Scope as ScopeTables}
 use Rattle.wf_ast.specs.declared.parsed.Name.{Name}
-use Rattle.wf_ast.specs.ParsedParts.{Parsed}
-use Rattle.wf_ast.specs.ParsedTrees.{decl_trees}
-use Rattle.wf_names_rules.specs.Declarations.{Variable, Method, Declared, declared, as_variable, bytes_of, is_spelt, method_named, variable_named, place_in, fields_of}
-use Rattle.wf_names_rules.specs.Meanings.{Known, sort_of, sort_in, args_in}
+use Rattle.wf_names_rules.specs.Declarations.{Variable, Method, Declared, as_variable, bytes_of, is_spelt, method_named, variable_named, place_in, fields_of}
+use Rattle.wf_names_rules.specs.Meanings.{Known, sort_of, sort_in, names_once}
 use Rattle.wf_names_rules.specs.Pairs.{pair_at}
-use Rattle.wf_names_rules.specs.Tables.{number_at, pair_sort, pair_place, sort_at, place_at}
+use Rattle.wf_names_rules.specs.Tables.{number_at, pair_sort, pair_place, sort_at, place_at, names_known}
 use Rattle.wf_names_rules.specs.Uses.{Scope}
 
 -- The same is known: each look-up answers the same.
@@ -32,10 +30,6 @@ pub record Agree (a b : Known) : Type 0 where
   pub is_public : (m : ℕ) → a.is_public m ≡ b.is_public m
   pub args : (m : ℕ) → a.args m ≡ b.args m
 
--- What a parsed package declares.
-abbrev pub package_of : Parsed → Declared
-package_of p = declared p.texts (decl_trees p.exprs p.stmts p.decls)
-
 -- A table tells by which number each of these names stands: by its place, counted from `first`. Of those that are spelt
 -- alike the first is meant.
 pub record TellsNumbers {X : Type 0} (first : ℕ) (name : X → Name) (named : List X) (t : Numbers) : Type 0 where
@@ -46,11 +40,12 @@ pub record TellsNumbers {X : Type 0} (first : ℕ) (name : X → Name) (named : 
 abbrev pub sort_among : (texts : List (List ℕ)) → List Variable → ℕ → Option Sort
 sort_among texts variables text = option_map (λ v. sort_of (bytes_of texts) v.of) (variable_named variables text)
 
--- A table tells what may be called on these variables, and their places.
+-- A table tells what may be called on these variables, and their places, and it has their names, each once, in order.
 pub record TellsVariables (texts : List (List ℕ)) (variables : List Variable) (t : Variables) : Type 0 where
   pub next : t.next ≡ length variables
   pub sorts : (text : ℕ) → sort_at t text ≡ sort_among texts variables text
   pub places : (text : ℕ) → place_at t text ≡ place_in variables text
+  pub names : names_known t ≡ names_once variables
 
 -- Tables tell the arguments and the locals of a method, and of methods one after the other.
 pub record TellsMethod (texts : List (List ℕ)) (m : Method) (t : MethodVariables) : Type 0 where
@@ -74,7 +69,6 @@ pub record TellsPackage (d : Declared) (t : Tables) : Type 0 where
   pub methods : (owner text : ℕ) → pair_at t.methods (owner, text) ≡ method_named d owner text
   pub method_names : (text : ℕ) → contains nat_eq t.method_names text ≡ list_any (λ m. is_spelt text m.name) d.methods
   pub publics : t.publics.items ≡ map (λ m. m.public) d.methods
-  pub args : map (λ names. names.keys) t.args.items ≡ map (λ m. args_in (Some m)) d.methods
   pub variables : TellMethods d.texts d.methods t.variables.items
 
 -- The method whose number this is has the arguments and the locals of the scope.

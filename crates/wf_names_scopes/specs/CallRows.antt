@@ -1,5 +1,5 @@
 -- Which methods a method calls, as lists of numbers.
-use Rattle.std.specs.Prelude.{◌≡◌, ◌<◌, ℕ, List, [], ◌∷◌, ◌++◌, Some, length}
+use Rattle.std.specs.Prelude.{◌≡◌, ◌<◌, ℕ, List, [], ◌++◌, Some, length}
 use Rattle.graphs.specs.Graphs.{holds, goes}
 use Rattle.wf_ast.specs.ParsedTree.{CallTree}
 use Rattle.wf_names_rules.specs.Called.{with_calls}

@@ -1,9 +1,10 @@
 // Numbers and entries of tables that grow by a name at a time: a name keeps what it was given first.
 
 ghost use Rattle.std.specs.Prelude.{◌≡◌, ◌+◌, not, ℕ, is_some, nat_eq, IfOk, OnOk};
-ghost use Rattle.indexmap.specs.IndexMap.{get};
+ghost use Rattle.indexmap.specs.IndexMap.{get, keys};
+ghost use Rattle.indexmap.specs.IndexSet.{insert_key};
 ghost use Rattle.wf_names_rules.specs.Pairs.{Pair, same_pair, pair_at};
-ghost use Rattle.wf_names_rules.specs.Tables.{has_number, number_at, pair_sort, pair_place, sort_at, place_at};
+ghost use Rattle.wf_names_rules.specs.Tables.{has_number, number_at, pair_sort, pair_place, sort_at, place_at, names_known};
 ghost use Rattle.wf_names_scopes.specs.Growing.{with_first};
 
 use indexmap::IndexMap;
@@ -55,7 +56,8 @@ fn put_variable(
     name: TextId,
     entry: Entry,
 ) -> Result<(), NoMemory>
-    ensures { OnOk result ((text : ℕ) → get nat_eq entries.new text ≡ with_first nat_eq (get nat_eq entries.old) name.0 entry text) }
+    ensures entries { OnOk result ((text : ℕ) → get nat_eq entries.new text ≡ with_first nat_eq (get nat_eq entries.old) name.0 entry text) }
+    ensures names { OnOk result (keys entries.new ≡ insert_key nat_eq (keys entries.old) name.0) }
 {
     if entries.contains_key(&name.0) {
         return Ok(());
@@ -70,6 +72,7 @@ pub(crate) fn add_entry(variables: &mut Variables, name: TextId, sort: Sort) -> 
     ensures next { OnOk result (variables.new.next ≡ variables.old.next + 1) }
     ensures sorts { OnOk result ((text : ℕ) → sort_at variables.new text ≡ with_first nat_eq (sort_at variables.old) name.0 sort text) }
     ensures places { OnOk result ((text : ℕ) → place_at variables.new text ≡ with_first nat_eq (place_at variables.old) name.0 variables.old.next text) }
+    ensures names { OnOk result (names_known variables.new ≡ insert_key nat_eq (names_known variables.old) name.0) }
 {
     let next = next_number(variables.next)?;
     let entry = Entry {

@@ -1,16 +1,15 @@
 // The tables of a package: what its declarations mean, by their names. Of two declarations with one name the first is
 // meant.
 
-ghost use Rattle.std.specs.Prelude.{◌≡◌, ◌++◌, ◌||◌, [], ◌∷◌, ℕ, List, Some, length, map, nat_eq, IfOk, OnOk};
-ghost use Rattle.indexmap.specs.IndexSet.{contains, insert_all};
+ghost use Rattle.std.specs.Prelude.{◌≡◌, ◌++◌, ◌||◌, [], ◌∷◌, ℕ, List, length, nat_eq, IfOk, OnOk};
+ghost use Rattle.indexmap.specs.IndexSet.{contains};
 ghost use Rattle.wf_ast.specs.declared.parsed.Name.{Name};
 ghost use Rattle.wf_ast.specs.ParsedTree.{ExprTree, DeclTree};
 ghost use Rattle.wf_ast.specs.ParsedTrees.{expr_trees, stmt_trees, type_at, fields_at, block_at, decl_made};
 ghost use Rattle.wf_ast.specs.ParsedParts.{BlockBelow, DeclParts};
-ghost use Rattle.wf_names_rules.specs.Declarations.{Declared, Constant, Structure, Method, declared, variables, locals_of};
-ghost use Rattle.wf_names_rules.specs.Meanings.{args_in};
+ghost use Rattle.wf_names_rules.specs.Declarations.{Declared, Constant, Structure, Method, declared, variables, locals_of, declared_in};
 ghost use Rattle.wf_names_rules.specs.Tables.{pair_sort, pair_place};
-ghost use Rattle.wf_names_scopes.specs.Agreeing.{TellsNumbers, TellsPackage, TellsMethod, package_of, sort_among};
+ghost use Rattle.wf_names_scopes.specs.Agreeing.{TellsNumbers, TellsPackage, TellsMethod, sort_among};
 ghost use Rattle.wf_names_scopes.specs.Growing.{with_fields, place_from, with_status, with_constant, with_struct, with_method};
 
 use crate::numbers::{add_field, add_number, next_number, put_pair};
@@ -50,7 +49,6 @@ fn empty(alloc: Global) -> Tables
         methods: BTreeMap::new(alloc),
         method_names: IndexSet::new(alloc),
         publics: Vec::new(alloc),
-        args: Vec::new(alloc),
         variables: Vec::new(alloc),
     }
 }
@@ -85,17 +83,6 @@ fn add_fields(
         place = next_number(place)?;
     }
     Ok(())
-}
-
-// The names of a method's arguments, each once.
-fn arg_names(alloc: Global, args: &[Field]) -> Result<IndexSet<u32>, NoMemory>
-    ensures { IfOk result (λ names. (es : _) → names.keys ≡ insert_all nat_eq [] (map (λ v. v.name.text.0) (variables (fields_at es args.now)))) }
-{
-    let mut names = IndexSet::new(alloc);
-    for arg in args {
-        names.insert(arg.name.text.0)?;
-    }
-    Ok(names)
 }
 
 fn add_status(tables: &mut Tables, name: Name) -> Result<(), NoMemory>
@@ -141,18 +128,16 @@ struct Heading {
     name: Name,
 }
 
-// A method after those that the tables tell, by the names of its arguments and its tables: its number is how many these are.
+// A method after those that the tables tell, by the tables of its variables: its number is how many these are.
 fn put_method(
     tables: &mut Tables,
     heading: Heading,
-    names: IndexSet<u32>,
     variables: MethodVariables,
 ) -> Result<(), NoMemory>
     ensures { OnOk result ((d : Declared) (m : Method) → m.public ≡ heading.public → m.owner ≡ heading.owner → m.name ≡ heading.name
-        → names.keys ≡ args_in (Some m) → TellsMethod d.texts m variables → TellsPackage d tables.old → TellsPackage (with_method d m) tables.new) }
+        → TellsMethod d.texts m variables → TellsPackage d tables.old → TellsPackage (with_method d m) tables.new) }
 {
     let m = tables.publics.len();
-    tables.args.push(names)?;
     tables.variables.push(variables)?;
     tables.publics.push(heading.public)?;
     add_name(&mut tables.method_names, heading.name)?;
@@ -176,9 +161,8 @@ fn add_method(
         → m.args ≡ variables (fields_at (expr_trees parsed.now.exprs) args.now) → m.locals ≡ locals_of (block_at (stmt_trees parsed.now.exprs parsed.now.stmts) body.now)
         → TellsPackage d tables.old → TellsPackage (with_method d m) tables.new) }
 {
-    let names = arg_names(alloc, args)?;
     let variables = method_variables(alloc, parsed, args, body)?;
-    put_method(tables, heading, names, variables)
+    put_method(tables, heading, variables)
 }
 
 fn add_decl(
@@ -214,7 +198,7 @@ fn add_decl(
 
 /// The tables of a package.
 pub fn tables(alloc: Global, parsed: &PackageNodes) -> Result<Tables, NoMemory>
-    ensures { IfOk result (λ tables. TellsPackage (package_of parsed.now) tables) }
+    ensures { IfOk result (λ tables. TellsPackage (declared_in parsed.now) tables) }
 {
     let mut tables = empty(alloc);
     for number in 0..parsed.decls().len() {

@@ -7,10 +7,10 @@ ghost use Rattle.wf_ast.specs.ParsedTrees.{expr_trees, stmt_trees, expr_at, type
 ghost use Rattle.wf_ast.specs.ParsedParts.{TypeBelow, FieldsBelow, ResultBelow, BlockBelow, DeclParts};
 ghost use Rattle.wf_names_rules.specs.Called.{with_calls};
 ghost use Rattle.wf_names_rules.specs.Jumps.{block_jumps, jumped, method_labels, labels_found};
-ghost use Rattle.wf_names_rules.specs.Declarations.{Declared, Variable, Method, variables, locals_of, as_variable, constants_of, structs_of, methods_of};
+ghost use Rattle.wf_names_rules.specs.Declarations.{Declared, Variable, Method, variables, locals_of, as_variable, constants_of, structs_of, methods_of, declared_in};
 ghost use Rattle.wf_names_rules.specs.Uses.{structure, uses_of, type_uses, result_uses, variable_uses, block_uses, sites_in, constant_scope, constant_sites, struct_sites, method_sites};
 ghost use Rattle.wf_names_rules.specs.Meanings.{known_at};
-ghost use Rattle.wf_names_scopes.specs.Agreeing.{package_of, TellsPackage, TellsScope, TellsConstants};
+ghost use Rattle.wf_names_scopes.specs.Agreeing.{TellsPackage, TellsScope, TellsConstants};
 ghost use Rattle.wf_names_scopes.specs.CallRows.{AreRows, AreRowsInFront};
 ghost use Rattle.wf_names_scopes.specs.Growing.{scope_in, AreNext};
 ghost use Rattle.wf_names_scopes.specs.UsesFound.{sites_judged, names_found};
@@ -60,9 +60,9 @@ fn constant_uses(
 ) -> Result<(), NoMemory>
     requires of { TypeBelow (length here.now.parsed.now.exprs) of.now }
     requires value { value.0 < length here.now.parsed.now.exprs }
-    requires tables { TellsPackage (package_of here.now.parsed.now) here.now.tables.now }
-    ensures { OnOk result ((known : List Variable) → TellsScope (package_of here.now.parsed.now) (constant_scope known) here.now.scope.now
-        → seen.new.found ≡ sites_judged (package_of here.now.parsed.now) seen.old.found (sites_in (constant_scope known) (type_uses (type_at (expr_trees here.now.parsed.now.exprs) of.now) ++ uses_of (expr_at (expr_trees here.now.parsed.now.exprs) value)))) }
+    requires tables { TellsPackage (declared_in here.now.parsed.now) here.now.tables.now }
+    ensures { OnOk result ((known : List Variable) → TellsScope (declared_in here.now.parsed.now) (constant_scope known) here.now.scope.now
+        → seen.new.found ≡ sites_judged (declared_in here.now.parsed.now) seen.old.found (sites_in (constant_scope known) (type_uses (type_at (expr_trees here.now.parsed.now.exprs) of.now) ++ uses_of (expr_at (expr_trees here.now.parsed.now.exprs) value)))) }
 {
     let mut row = Row::new(alloc);
     walk_constant(alloc, seen, &mut row, here, of, value)?;
@@ -79,9 +79,9 @@ fn constant_next(
 ) -> Result<(), NoMemory>
     requires of { TypeBelow (length whole.now.parsed.now.exprs) constant.of.now }
     requires value { constant.value.0 < length whole.now.parsed.now.exprs }
-    requires tables { TellsPackage (package_of whole.now.parsed.now) whole.now.tables.now }
-    ensures found { OnOk result ((known : List Variable) → TellsScope (package_of whole.now.parsed.now) (constant_scope known) scope.old
-        → seen.new.found ≡ sites_judged (package_of whole.now.parsed.now) seen.old.found (sites_in (constant_scope known) (type_uses (type_at (expr_trees whole.now.parsed.now.exprs) constant.entry.of.now) ++ uses_of (expr_at (expr_trees whole.now.parsed.now.exprs) constant.entry.value)))) }
+    requires tables { TellsPackage (declared_in whole.now.parsed.now) whole.now.tables.now }
+    ensures found { OnOk result ((known : List Variable) → TellsScope (declared_in whole.now.parsed.now) (constant_scope known) scope.old
+        → seen.new.found ≡ sites_judged (declared_in whole.now.parsed.now) seen.old.found (sites_in (constant_scope known) (type_uses (type_at (expr_trees whole.now.parsed.now.exprs) constant.entry.of.now) ++ uses_of (expr_at (expr_trees whole.now.parsed.now.exprs) constant.entry.value)))) }
     ensures constants { OnOk result ((d : Declared) (known left : List Variable) → (known ++ record { name = constant.entry.name; of = type_at (expr_trees whole.now.parsed.now.exprs) constant.entry.of.now } ∷ []) ++ left ≡ map as_variable d.constants
         → TellsScope d (constant_scope known) scope.old → TellsScope d (constant_scope (known ++ record { name = constant.entry.name; of = type_at (expr_trees whole.now.parsed.now.exprs) constant.entry.of.now } ∷ [])) scope.new) }
 {
@@ -102,9 +102,9 @@ fn constant_decl(
     node: &DeclNode,
 ) -> Result<(), NoMemory>
     requires parts { DeclParts (length whole.now.parsed.now.exprs) (length whole.now.parsed.now.stmts) node.now.decl }
-    requires tables { TellsPackage (package_of whole.now.parsed.now) whole.now.tables.now }
-    ensures found { OnOk result ((known : List Variable) → TellsScope (package_of whole.now.parsed.now) (constant_scope known) scope.old
-        → seen.new.found ≡ sites_judged (package_of whole.now.parsed.now) seen.old.found (constant_sites known (constants_of (decl_made (expr_trees whole.now.parsed.now.exprs) (stmt_trees whole.now.parsed.now.exprs whole.now.parsed.now.stmts) node.now.public node.now.decl node.now.at ∷ [])))) }
+    requires tables { TellsPackage (declared_in whole.now.parsed.now) whole.now.tables.now }
+    ensures found { OnOk result ((known : List Variable) → TellsScope (declared_in whole.now.parsed.now) (constant_scope known) scope.old
+        → seen.new.found ≡ sites_judged (declared_in whole.now.parsed.now) seen.old.found (constant_sites known (constants_of (decl_made (expr_trees whole.now.parsed.now.exprs) (stmt_trees whole.now.parsed.now.exprs whole.now.parsed.now.stmts) node.now.public node.now.decl node.now.at ∷ [])))) }
     ensures constants { OnOk result ((d : Declared) (known left : List Variable) → (known ++ map as_variable (constants_of (decl_made (expr_trees whole.now.parsed.now.exprs) (stmt_trees whole.now.parsed.now.exprs whole.now.parsed.now.stmts) node.now.public node.now.decl node.now.at ∷ []))) ++ left ≡ map as_variable d.constants
         → TellsScope d (constant_scope known) scope.old → TellsScope d (constant_scope (known ++ map as_variable (constants_of (decl_made (expr_trees whole.now.parsed.now.exprs) (stmt_trees whole.now.parsed.now.exprs whole.now.parsed.now.stmts) node.now.public node.now.decl node.now.at ∷ [])))) scope.new) }
 {
@@ -131,10 +131,10 @@ fn constants(
     whole: &Whole<'_>,
     scope: &mut Scope,
 ) -> Result<(), NoMemory>
-    requires tables { TellsPackage (package_of whole.now.parsed.now) whole.now.tables.now }
-    requires outside { TellsScope (package_of whole.now.parsed.now) (constant_scope []) scope.old }
-    ensures found { OnOk result (seen.new.found ≡ sites_judged (package_of whole.now.parsed.now) seen.old.found (constant_sites [] (package_of whole.now.parsed.now).constants)) }
-    ensures constants { OnOk result (TellsConstants (package_of whole.now.parsed.now) scope.new) }
+    requires tables { TellsPackage (declared_in whole.now.parsed.now) whole.now.tables.now }
+    requires outside { TellsScope (declared_in whole.now.parsed.now) (constant_scope []) scope.old }
+    ensures found { OnOk result (seen.new.found ≡ sites_judged (declared_in whole.now.parsed.now) seen.old.found (constant_sites [] (declared_in whole.now.parsed.now).constants)) }
+    ensures constants { OnOk result (TellsConstants (declared_in whole.now.parsed.now) scope.new) }
 {
     let mut number = 0;
     while number < whole.parsed.decls().len() {
@@ -154,10 +154,10 @@ fn struct_uses(
     fields: &[Field],
 ) -> Result<(), NoMemory>
     requires fields { FieldsBelow (length whole.now.parsed.now.exprs) fields.now }
-    requires tables { TellsPackage (package_of whole.now.parsed.now) whole.now.tables.now }
-    requires constants { TellsConstants (package_of whole.now.parsed.now) scope.old }
-    ensures found { OnOk result (seen.new.found ≡ sites_judged (package_of whole.now.parsed.now) seen.old.found (struct_sites (package_of whole.now.parsed.now) (record { name = name; fields = variables (fields_at (expr_trees whole.now.parsed.now.exprs) fields.now) }))) }
-    ensures constants { TellsConstants (package_of whole.now.parsed.now) scope.new }
+    requires tables { TellsPackage (declared_in whole.now.parsed.now) whole.now.tables.now }
+    requires constants { TellsConstants (declared_in whole.now.parsed.now) scope.old }
+    ensures found { OnOk result (seen.new.found ≡ sites_judged (declared_in whole.now.parsed.now) seen.old.found (struct_sites (declared_in whole.now.parsed.now) (record { name = name; fields = variables (fields_at (expr_trees whole.now.parsed.now.exprs) fields.now) }))) }
+    ensures constants { TellsConstants (declared_in whole.now.parsed.now) scope.new }
 {
     enter_struct(scope, name);
     let mut row = Row::new(alloc);
@@ -178,10 +178,10 @@ fn struct_decl(
     node: &DeclNode,
 ) -> Result<(), NoMemory>
     requires parts { DeclParts (length whole.now.parsed.now.exprs) (length whole.now.parsed.now.stmts) node.now.decl }
-    requires tables { TellsPackage (package_of whole.now.parsed.now) whole.now.tables.now }
-    requires constants { TellsConstants (package_of whole.now.parsed.now) scope.old }
-    ensures found { OnOk result (seen.new.found ≡ sites_judged (package_of whole.now.parsed.now) seen.old.found (flat_map (struct_sites (package_of whole.now.parsed.now)) (structs_of (decl_made (expr_trees whole.now.parsed.now.exprs) (stmt_trees whole.now.parsed.now.exprs whole.now.parsed.now.stmts) node.now.public node.now.decl node.now.at ∷ [])))) }
-    ensures constants { TellsConstants (package_of whole.now.parsed.now) scope.new }
+    requires tables { TellsPackage (declared_in whole.now.parsed.now) whole.now.tables.now }
+    requires constants { TellsConstants (declared_in whole.now.parsed.now) scope.old }
+    ensures found { OnOk result (seen.new.found ≡ sites_judged (declared_in whole.now.parsed.now) seen.old.found (flat_map (struct_sites (declared_in whole.now.parsed.now)) (structs_of (decl_made (expr_trees whole.now.parsed.now.exprs) (stmt_trees whole.now.parsed.now.exprs whole.now.parsed.now.stmts) node.now.public node.now.decl node.now.at ∷ [])))) }
+    ensures constants { TellsConstants (declared_in whole.now.parsed.now) scope.new }
 {
     match &node.decl {
         Decl::Struct { name, fields, .. } => {
@@ -199,10 +199,10 @@ fn structs(
     whole: &Whole<'_>,
     scope: &mut Scope,
 ) -> Result<(), NoMemory>
-    requires tables { TellsPackage (package_of whole.now.parsed.now) whole.now.tables.now }
-    requires constants { TellsConstants (package_of whole.now.parsed.now) scope.old }
-    ensures found { OnOk result (seen.new.found ≡ sites_judged (package_of whole.now.parsed.now) seen.old.found (flat_map (struct_sites (package_of whole.now.parsed.now)) (package_of whole.now.parsed.now).structs)) }
-    ensures constants { TellsConstants (package_of whole.now.parsed.now) scope.new }
+    requires tables { TellsPackage (declared_in whole.now.parsed.now) whole.now.tables.now }
+    requires constants { TellsConstants (declared_in whole.now.parsed.now) scope.old }
+    ensures found { OnOk result (seen.new.found ≡ sites_judged (declared_in whole.now.parsed.now) seen.old.found (flat_map (struct_sites (declared_in whole.now.parsed.now)) (declared_in whole.now.parsed.now).structs)) }
+    ensures constants { TellsConstants (declared_in whole.now.parsed.now) scope.new }
 {
     let mut number = 0;
     while number < whole.parsed.decls().len() {
@@ -225,11 +225,11 @@ fn method_uses(
     requires args { FieldsBelow (length whole.now.parsed.now.exprs) method.args.now }
     requires gives { ResultBelow (length whole.now.parsed.now.exprs) method.gives.now }
     requires body { BlockBelow (length whole.now.parsed.now.stmts) method.body.now }
-    requires tables { TellsPackage (package_of whole.now.parsed.now) whole.now.tables.now }
-    requires inside { TellsScope (package_of whole.now.parsed.now) (scope_in (package_of whole.now.parsed.now) method.owner (variables (fields_at (expr_trees whole.now.parsed.now.exprs) method.args.now)) (locals_of (block_at (stmt_trees whole.now.parsed.now.exprs whole.now.parsed.now.stmts) method.body.now))) scope.now }
-    ensures found { OnOk result (seen.new.found ≡ sites_judged (package_of whole.now.parsed.now) seen.old.found (sites_in (scope_in (package_of whole.now.parsed.now) method.entry.owner (variables (fields_at (expr_trees whole.now.parsed.now.exprs) method.entry.args.now)) (locals_of (block_at (stmt_trees whole.now.parsed.now.exprs whole.now.parsed.now.stmts) method.entry.body.now)))
+    requires tables { TellsPackage (declared_in whole.now.parsed.now) whole.now.tables.now }
+    requires inside { TellsScope (declared_in whole.now.parsed.now) (scope_in (declared_in whole.now.parsed.now) method.owner (variables (fields_at (expr_trees whole.now.parsed.now.exprs) method.args.now)) (locals_of (block_at (stmt_trees whole.now.parsed.now.exprs whole.now.parsed.now.stmts) method.body.now))) scope.now }
+    ensures found { OnOk result (seen.new.found ≡ sites_judged (declared_in whole.now.parsed.now) seen.old.found (sites_in (scope_in (declared_in whole.now.parsed.now) method.entry.owner (variables (fields_at (expr_trees whole.now.parsed.now.exprs) method.entry.args.now)) (locals_of (block_at (stmt_trees whole.now.parsed.now.exprs whole.now.parsed.now.stmts) method.entry.body.now)))
         (structure method.entry.owner ∷ (variable_uses (variables (fields_at (expr_trees whole.now.parsed.now.exprs) method.entry.args.now)) ++ (result_uses (result_at (expr_trees whole.now.parsed.now.exprs) method.entry.gives.now) ++ block_uses (block_at (stmt_trees whole.now.parsed.now.exprs whole.now.parsed.now.stmts) method.entry.body.now)))))) }
-    ensures row { OnOk result (gathered.new.row ≡ with_calls (known_at (package_of whole.now.parsed.now) (scope_in (package_of whole.now.parsed.now) method.entry.owner (variables (fields_at (expr_trees whole.now.parsed.now.exprs) method.entry.args.now)) (locals_of (block_at (stmt_trees whole.now.parsed.now.exprs whole.now.parsed.now.stmts) method.entry.body.now)))) gathered.old.row
+    ensures row { OnOk result (gathered.new.row ≡ with_calls (known_at (declared_in whole.now.parsed.now) (scope_in (declared_in whole.now.parsed.now) method.entry.owner (variables (fields_at (expr_trees whole.now.parsed.now.exprs) method.entry.args.now)) (locals_of (block_at (stmt_trees whole.now.parsed.now.exprs whole.now.parsed.now.stmts) method.entry.body.now)))) gathered.old.row
         (variable_uses (variables (fields_at (expr_trees whole.now.parsed.now.exprs) method.entry.args.now)) ++ (result_uses (result_at (expr_trees whole.now.parsed.now.exprs) method.entry.gives.now) ++ block_uses (block_at (stmt_trees whole.now.parsed.now.exprs whole.now.parsed.now.stmts) method.entry.body.now)))) }
     ensures labels { OnOk result (gathered.new.labels ≡ jumped whole.now.parsed.now.texts gathered.old.labels (block_jumps gathered.old.loops.items (block_at (stmt_trees whole.now.parsed.now.exprs whole.now.parsed.now.stmts) method.entry.body.now))) }
 {
@@ -262,14 +262,14 @@ fn method_decl(
     node: &DeclNode,
 ) -> Result<(), NoMemory>
     requires parts { DeclParts (length whole.now.parsed.now.exprs) (length whole.now.parsed.now.stmts) node.now.decl }
-    requires tables { TellsPackage (package_of whole.now.parsed.now) whole.now.tables.now }
-    requires constants { TellsConstants (package_of whole.now.parsed.now) scope.old }
-    requires next { AreNext (package_of whole.now.parsed.now) (length bodies.old.rows.items) (methods_of (decl_made (expr_trees whole.now.parsed.now.exprs) (stmt_trees whole.now.parsed.now.exprs whole.now.parsed.now.stmts) node.now.public node.now.decl node.now.at ∷ [])) }
-    ensures found { OnOk result (seen.new.found ≡ sites_judged (package_of whole.now.parsed.now) seen.old.found (flat_map (method_sites (package_of whole.now.parsed.now)) (methods_of (decl_made (expr_trees whole.now.parsed.now.exprs) (stmt_trees whole.now.parsed.now.exprs whole.now.parsed.now.stmts) node.now.public node.now.decl node.now.at ∷ [])))) }
-    ensures rows { OnOk result ((left : List Method) → AreRowsInFront (package_of whole.now.parsed.now) bodies.old.rows.items (methods_of (decl_made (expr_trees whole.now.parsed.now.exprs) (stmt_trees whole.now.parsed.now.exprs whole.now.parsed.now.stmts) node.now.public node.now.decl node.now.at ∷ []) ++ left)
-        → AreRowsInFront (package_of whole.now.parsed.now) bodies.new.rows.items left) }
+    requires tables { TellsPackage (declared_in whole.now.parsed.now) whole.now.tables.now }
+    requires constants { TellsConstants (declared_in whole.now.parsed.now) scope.old }
+    requires next { AreNext (declared_in whole.now.parsed.now) (length bodies.old.rows.items) (methods_of (decl_made (expr_trees whole.now.parsed.now.exprs) (stmt_trees whole.now.parsed.now.exprs whole.now.parsed.now.stmts) node.now.public node.now.decl node.now.at ∷ [])) }
+    ensures found { OnOk result (seen.new.found ≡ sites_judged (declared_in whole.now.parsed.now) seen.old.found (flat_map (method_sites (declared_in whole.now.parsed.now)) (methods_of (decl_made (expr_trees whole.now.parsed.now.exprs) (stmt_trees whole.now.parsed.now.exprs whole.now.parsed.now.stmts) node.now.public node.now.decl node.now.at ∷ [])))) }
+    ensures rows { OnOk result ((left : List Method) → AreRowsInFront (declared_in whole.now.parsed.now) bodies.old.rows.items (methods_of (decl_made (expr_trees whole.now.parsed.now.exprs) (stmt_trees whole.now.parsed.now.exprs whole.now.parsed.now.stmts) node.now.public node.now.decl node.now.at ∷ []) ++ left)
+        → AreRowsInFront (declared_in whole.now.parsed.now) bodies.new.rows.items left) }
     ensures labels { OnOk result (bodies.new.labels ≡ fold (method_labels whole.now.parsed.now.texts) bodies.old.labels (methods_of (decl_made (expr_trees whole.now.parsed.now.exprs) (stmt_trees whole.now.parsed.now.exprs whole.now.parsed.now.stmts) node.now.public node.now.decl node.now.at ∷ []))) }
-    ensures constants { OnOk result (TellsConstants (package_of whole.now.parsed.now) scope.new) }
+    ensures constants { OnOk result (TellsConstants (declared_in whole.now.parsed.now) scope.new) }
 {
     match &node.decl {
         Decl::Method {
@@ -307,12 +307,12 @@ fn methods(
     whole: &Whole<'_>,
     scope: &mut Scope,
 ) -> Result<(), NoMemory>
-    requires tables { TellsPackage (package_of whole.now.parsed.now) whole.now.tables.now }
-    requires constants { TellsConstants (package_of whole.now.parsed.now) scope.old }
+    requires tables { TellsPackage (declared_in whole.now.parsed.now) whole.now.tables.now }
+    requires constants { TellsConstants (declared_in whole.now.parsed.now) scope.old }
     requires none { bodies.old.rows.items ≡ [] }
-    ensures found { OnOk result (seen.new.found ≡ sites_judged (package_of whole.now.parsed.now) seen.old.found (flat_map (method_sites (package_of whole.now.parsed.now)) (package_of whole.now.parsed.now).methods)) }
-    ensures labels { OnOk result (bodies.new.labels ≡ labels_found (package_of whole.now.parsed.now) bodies.old.labels) }
-    ensures rows { OnOk result (AreRows (package_of whole.now.parsed.now) bodies.new.rows.items (length (package_of whole.now.parsed.now).methods)) }
+    ensures found { OnOk result (seen.new.found ≡ sites_judged (declared_in whole.now.parsed.now) seen.old.found (flat_map (method_sites (declared_in whole.now.parsed.now)) (declared_in whole.now.parsed.now).methods)) }
+    ensures labels { OnOk result (bodies.new.labels ≡ labels_found (declared_in whole.now.parsed.now) bodies.old.labels) }
+    ensures rows { OnOk result (AreRows (declared_in whole.now.parsed.now) bodies.new.rows.items (length (declared_in whole.now.parsed.now).methods)) }
 {
     let mut number = 0;
     while number < whole.parsed.decls().len() {
@@ -331,9 +331,9 @@ pub fn uses(
     parsed: &PackageNodes,
     tables: &Tables,
 ) -> Result<Vec<Row>, NoMemory>
-    requires { TellsPackage (package_of parsed.now) tables.now }
-    ensures found { OnOk result (found.new ≡ names_found (package_of parsed.now) found.old) }
-    ensures rows { IfOk result (λ rows. AreRows (package_of parsed.now) rows.items (length (package_of parsed.now).methods)) }
+    requires { TellsPackage (declared_in parsed.now) tables.now }
+    ensures found { OnOk result (found.new ≡ names_found (declared_in parsed.now) found.old) }
+    ensures rows { IfOk result (λ rows. AreRows (declared_in parsed.now) rows.items (length (declared_in parsed.now).methods)) }
 {
     let mut scope = outside();
     let mut seen = Seen {

@@ -1,10 +1,9 @@
 -- The pass over arrays by tables finds what it finds by the values of the package's constants.
-use Rattle.std.proofs.Common.{◌≡◌, ℕ, ◌+◌, ◌≤◌, Bool, true, false, ◌||◌, List, [], ◌∷◌, ◌++◌, map, drop, length, Option, Some, slice_get, is_some, cond, nat_eq, nat_lt, refl, sym, ap, ◌∙◌, arith}
-use Rattle.std.specs.List.{list_any, flat_map}
-use Rattle.std.proofs.lemmas.Bool.Decides.{nat_tests}
+use Rattle.std.proofs.Common.{◌≡◌, ℕ, ◌+◌, ◌≤◌, ◌||◌, List, [], ◌∷◌, ◌++◌, map, drop, length, Option, Some, None, slice_get, is_some, nat_eq, nat_lt, refl, sym, ap, ◌∙◌, subst}
+use Rattle.std.specs.List.{flat_map}
+use Rattle.std.specs.Option.{option_map}
 use Rattle.std.proofs.lemmas.Grind.{flat_map-append}
-use Rattle.indexmap.specs.IndexMap.{IndexMap}
-use Rattle.indexmap.specs.IndexSet.{IndexSet, contains, insert_all}
+use Rattle.indexmap.specs.IndexMap.{get}
 use Rattle.wf_text.specs.declared.rules.Refusal.{Refusal}
 use Rattle.wf_text.specs.declared.rules.Rule.TheVariants.{L7}
 use Rattle.wf_text.specs.Precedence.{sooner, soonest}
@@ -14,13 +13,17 @@ use Rattle.wf_ast.specs.declared.parsed.StmtNode.{StmtNode}
 use Rattle.wf_ast.specs.ParsedTree as tree
 use Rattle.wf_ast.specs.ParsedTree.{ExprTree, TypeTree, DeclTree}
 use Rattle.wf_ast.specs.ParsedTrees.{expr_trees, stmt_trees, decl_trees, decl_made, decls_made}
-use Rattle.wf_names_rules.specs.Declarations.{Variable, Structure, Method, Declared, text_of, structs_of, methods_of, variable_named}
+use Rattle.wf_names_rules.specs.declared.tables.Entry.{Entry}
+use Rattle.wf_names_rules.specs.declared.tables.MethodVariables.{MethodVariables}
+use Rattle.wf_names_rules.specs.declared.tables.Variables.{Variables}
+use Rattle.wf_names_rules.specs.Declarations.{Variable, Structure, Method, Declared, bytes_of, text_of, structs_of, methods_of, variable_named}
+use Rattle.wf_names_rules.specs.Meanings.{sort_of}
 use Rattle.wf_names_rules.specs.ConstantValues.{Sized, known_constants, value_of}
 use Rattle.wf_names_rules.specs.Sizes.{hidden_by, number_or_zero, is_too_long}
 use Rattle.wf_names_rules.specs.Passes.{refused_if}
-use Rattle.wf_names_rules.proofs.ArgumentLemmas.{insert_all-holds}
-use Rattle.wf_names_sizes.specs.declared.numbers.Value.{Value}
-use Rattle.wf_names_sizes.specs.ValuesBy.{Knows, constant_by, value_by}
+use Rattle.wf_names_scopes.specs.Agreeing.{TellsVariables, TellsMethod, TellMethods}
+use Rattle.wf_names_sizes.specs.declared.environment.Environment.{Environment}
+use Rattle.wf_names_sizes.specs.ValuesBy.{Knows, hides, constant_by, value_by}
 use Rattle.wf_names_sizes.specs.LongArrays.{is_long_by, too_long_array_by, too_long_array}
 use Rattle.wf_names_sizes.proofs.ValueLemmas.{constant_is, value_is, decl-there, decls-over}
 
@@ -30,26 +33,16 @@ soonest-append found [] ys = refl
 soonest-append found (x ∷ xs) ys = soonest-append (sooner found x) xs ys
 
 -- Names of locals.
-swapped : (a b : ℕ) → nat_eq a b ≡ nat_eq b a
-swapped a b = grind (arith, nat_tests)
+some_mapped : {X Y : Type 0} (f : X → Y) (o : Option X) → is_some (option_map f o) ≡ is_some o
+some_mapped f None = refl
+some_mapped f (Some x) = refl
 
-either_way : (t : Bool) (v : Variable) (rest : Option Variable) → (t || is_some rest) ≡ is_some (cond t (Some v) rest)
-either_way true v rest = refl
-either_way false v rest = refl
-
-named_hidden : (locals : List Variable) (text : ℕ) → list_any (nat_eq text) (map (λ (v : Variable). v.name.text.0) locals) ≡ hidden_by locals text
-named_hidden [] text = refl
-named_hidden (v ∷ vs) text =
-    ap (λ t. t || list_any (nat_eq text) (map (λ (x : Variable). x.name.text.0) vs)) (swapped text v.name.text.0) ∙ ap (λ b. nat_eq v.name.text.0 text || b) (named_hidden vs text)
-    ∙ either_way (nat_eq v.name.text.0 text) v (variable_named vs text)
-
-pub locals_hide : {S : Type 0} (set : IndexSet ℕ S) (locals : List Variable) → set.keys ≡ insert_all nat_eq [] (map (λ (v : Variable). v.name.text.0) locals)
-    → (text : ℕ) → contains nat_eq set text ≡ hidden_by locals text
-locals_hide set locals h text =
-    ap (λ keys. list_any (nat_eq text) keys) h ∙ insert_all-holds (map (λ (v : Variable). v.name.text.0) locals) text ∙ named_hidden locals text
-
-pub nothing_hides : {S : Type 0} (set : IndexSet ℕ S) → set.keys ≡ [] → (text : ℕ) → contains nat_eq set text ≡ hidden_by [] text
-nothing_hides set h text = ap (λ keys. list_any (nat_eq text) keys) h
+-- A table of locals has the names that hide constants.
+pub locals_hide : (texts : List (List ℕ)) (locals : List Variable) (table : Variables) → TellsVariables texts locals table
+    → (text : ℕ) → is_some (get nat_eq table.entries text) ≡ hidden_by locals text
+locals_hide texts locals table tells text =
+    sym (some_mapped (λ (e : Entry). e.sort) (get nat_eq table.entries text)) ∙ ap is_some (tells.sorts text)
+    ∙ some_mapped (λ (v : Variable). sort_of (bytes_of texts) v.of) (variable_named locals text)
 
 -- Arrays by tables.
 module _ (d : Declared) (locals : List Variable) (value : ExprTree → Option Sized) (same : (e : ExprTree) → value e ≡ value_of d (hidden_by locals) (known_constants d) e) where
@@ -66,11 +59,11 @@ module _ (d : Declared) (locals : List Variable) (value : ExprTree → Option Si
   longs_are [] = refl
   longs_are (v ∷ vs) = ap (λ b. refused_if b L7 v.name.at ∷ map (too_long_array_by value) vs) (long_is v.of) ∙ ap (λ rest. too_long_array d locals v ∷ rest) (longs_are vs)
 
-pub longs_by : {S T : Type 0} (d : Declared) (locals : List Variable) (table : IndexMap ℕ (Option Value) S) (set : IndexSet ℕ T) → Knows table (known_constants d)
-    → ((text : ℕ) → contains nat_eq set text ≡ hidden_by locals text) → (vs : List Variable)
-    → map (too_long_array_by (value_by (text_of d) (constant_by table set))) vs ≡ map (too_long_array d locals) vs
-longs_by d locals table set k h vs =
-    longs_are d locals (value_by (text_of d) (constant_by table set)) (value_is d (hidden_by locals) (known_constants d) (constant_by table set) (constant_is table set (known_constants d) (hidden_by locals) k h)) vs
+pub longs_by : (d : Declared) (locals : List Variable) (env : Environment) → Knows env.constants.now (known_constants d)
+    → ((text : ℕ) → hides env.locals text ≡ hidden_by locals text) → (vs : List Variable)
+    → map (too_long_array_by (value_by (text_of d) (constant_by env))) vs ≡ map (too_long_array d locals) vs
+longs_by d locals env k h vs =
+    longs_are d locals (value_by (text_of d) (constant_by env)) (value_is d (hidden_by locals) (known_constants d) (constant_by env) (constant_is env (known_constants d) (hidden_by locals) k h)) vs
 
 -- One declaration more.
 pub structs-append : (t : DeclTree) (rest : List DeclTree) → structs_of (t ∷ rest) ≡ structs_of (t ∷ []) ++ structs_of rest
@@ -115,3 +108,23 @@ module _ (exprs : List ExprNode) (stmts : List StmtNode) (ds : List DeclNode) (i
   pub methods_over : (f : Method → List (Option Refusal)) (found : Option Refusal) → length ds ≤ i → soonest found (flat_map f (methods_of (drop i (decl_trees exprs stmts ds)))) ≡ found
   unfolding decl_trees
   methods_over f found h = ap (λ xs. soonest found (flat_map f (methods_of xs))) (decls-over (expr_trees exprs) (stmt_trees exprs stmts) ds i h)
+
+-- The variables of the methods from a declaration on.
+module _ (exprs : List ExprNode) (stmts : List StmtNode) (ds : List DeclNode) (i : ℕ) (texts : List (List ℕ)) (left : List MethodVariables) where
+  pub methods_told : (n : DeclNode) → slice_get ds i ≡ Some n → TellMethods texts (methods_of (drop i (decl_trees exprs stmts ds))) left
+      → TellMethods texts (methods_of (decl_made (expr_trees exprs) (stmt_trees exprs stmts) n.public n.decl n.at ∷ []) ++ methods_of (drop (i + 1) (decl_trees exprs stmts ds))) left
+  unfolding decl_trees
+  methods_told n h tell =
+      let t = decl_made (expr_trees exprs) (stmt_trees exprs stmts) n.public n.decl n.at in
+      let rest = drop (i + 1) (decls_made (expr_trees exprs) (stmt_trees exprs stmts) ds) in
+      let P : List Method → Type 0 = λ ms. TellMethods texts ms left in
+      subst P (ap methods_of (decl-there (expr_trees exprs) (stmt_trees exprs stmts) ds i n h) ∙ methods-append t rest) tell
+
+-- The first of them, and that there is one.
+pub first_told : (texts : List (List ℕ)) (m : Method) (rest : List Method) (left : List MethodVariables) (t : MethodVariables) (ts : List MethodVariables) → left ≡ t ∷ ts
+    → TellMethods texts (m ∷ rest) left → TellsMethod texts m t × TellMethods texts rest ts
+first_told texts m rest left t ts e tell = let P : List MethodVariables → Type 0 = TellMethods texts (m ∷ rest) in subst P e tell
+
+pub one_told : (texts : List (List ℕ)) (m : Method) (rest : List Method) (left : List MethodVariables) → length left ≡ 0 → TellMethods texts (m ∷ rest) left → ⊥
+one_told texts m rest [] e tell = tell
+one_told texts m rest (t ∷ ts) e tell = absurd (cc e)

@@ -1,6 +1,7 @@
 pub mod ArrayLemmas
 pub mod CycleLemmas
 pub mod DecidingLaws
+pub mod HoldingLemmas
 pub mod LargeLaws
 pub mod LongLaws
 pub mod PartLemmas

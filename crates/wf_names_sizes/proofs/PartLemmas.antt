@@ -1,7 +1,5 @@
 -- Fields by their types.
-use Rattle.std.proofs.Common.{◌≡◌, ℕ, ◌≤◌, false, List, [], ◌∷◌, length, Option, None, refl, arith}
-use Rattle.indexmap.specs.IndexMap.{IndexMap}
-use Rattle.indexmap.specs.IndexSet.{IndexSet}
+use Rattle.std.proofs.Common.{◌≡◌, ◌≤◌, false, List, [], ◌∷◌, length, None, refl, arith}
 use Rattle.wf_ast.specs.declared.parsed.Prefix.{Prefix}
 use Rattle.wf_ast.specs.declared.parsed.Prefix.TheVariants as prefixes
 use Rattle.wf_ast.specs.ParsedTree.{ExprTree, TypeTree}
@@ -9,7 +7,7 @@ use Rattle.wf_ast.specs.ParsedTrees.{all_prefixed}
 use Rattle.wf_names_rules.specs.Declarations.{Declared, text_of}
 use Rattle.wf_names_rules.specs.ConstantValues.{known_constants, value_of}
 use Rattle.wf_names_rules.specs.Sizes.{plain_bytes, struct_held}
-use Rattle.wf_names_sizes.specs.declared.numbers.Value.{Value}
+use Rattle.wf_names_sizes.specs.declared.environment.Environment.{Environment}
 use Rattle.wf_names_sizes.specs.ValuesBy.{Knows, constant_by, value_by}
 use Rattle.wf_names_sizes.proofs.ValueLemmas.{constant_is, value_is, not_hidden}
 
@@ -28,7 +26,7 @@ deep_held d es (prefixes.Slice at ∷ ps) of h = refl
 deep_held d es (prefixes.Array l at ∷ ps) of h = refl
 
 -- A number by the tables, where nothing is hidden.
-pub value_by_all : {S T : Type 0} (d : Declared) (table : IndexMap ℕ (Option Value) S) (set : IndexSet ℕ T) → set.keys ≡ [] → Knows table (known_constants d) → (e : ExprTree)
-    → value_by (text_of d) (constant_by table set) e ≡ value_of d (λ text. false) (known_constants d) e
-value_by_all d table set empty k =
-    value_is d (λ text. false) (known_constants d) (constant_by table set) (constant_is table set (known_constants d) (λ text. false) k (not_hidden set empty))
+pub value_by_all : (d : Declared) (env : Environment) → env.locals ≡ None → Knows env.constants.now (known_constants d) → (e : ExprTree)
+    → value_by (text_of d) (constant_by env) e ≡ value_of d (λ text. false) (known_constants d) e
+value_by_all d env outside k =
+    value_is d (λ text. false) (known_constants d) (constant_by env) (constant_is env (known_constants d) (λ text. false) k (not_hidden env outside))

@@ -8,10 +8,11 @@ use Rattle.graphs.specs.Graphs.{holds}
 use Rattle.wf_names_rules.specs.Passes.{is_flagged}
 use Rattle.wf_names_rules.specs.Sizes.{fields_at, is_the, struct_held, plain_bytes, Take}
 use Rattle.graphs.proofs.NumberLemmas.{same_number, number_self}
+use Rattle.wf_names_sizes.specs.declared.parts.FieldPart.{FieldPart}
 use Rattle.wf_names_sizes.specs.declared.parts.Part.{Part}
 use Rattle.wf_names_sizes.specs.declared.parts.Part.TheVariants as parts
 use Rattle.wf_names_sizes.specs.Orders.{is_struct, has_struct, IsHoldingOrder, IsSettlingOrder}
-use Rattle.wf_names_sizes.specs.StructSizes.{capped, part_with, part_of, row_of, added, struct_bytes, size_in, part_bytes, sum_after, AreHolding, TakesCapped, AreSizes, AreSettled}
+use Rattle.wf_names_sizes.specs.StructSizes.{capped, part_with, field_of, row_of, added, struct_bytes, size_in, part_bytes, sum_after, AreHolding, TakesCapped, AreSizes, AreSettled}
 use Rattle.wf_names_sizes.proofs.TakeLemmas.{sum-taken}
 
 set-same : (sizes : List (Option ℕ)) (s : ℕ) (x : Option ℕ) → s < length sizes → slice_get (slice_set sizes s x) s ≡ Some x
@@ -43,10 +44,10 @@ no-sizes d count s n h = absurd (none_known count s n h)
     none_known (suc k) (suc t) m e = none_known k t m e
 
 -- The sizes with that of one struct.
-abbrev pub settled : (flags : List Bool) → List (Option ℕ) → List Part → ℕ → List (Option ℕ)
+abbrev pub settled : (flags : List Bool) → List (Option ℕ) → List FieldPart → ℕ → List (Option ℕ)
 settled flags sizes row s = slice_set sizes s (sum_after flags sizes (Some 0) row)
 
-pub settled-sound : (d : Declared) (flags : List Bool) (rows : List (List Part)) (sizes : List (Option ℕ)) (row : List Part) (s : ℕ) → rows ≡ map (row_of d) d.structs → AreHolding d flags
+pub settled-sound : (d : Declared) (flags : List Bool) (rows : List (List FieldPart)) (sizes : List (Option ℕ)) (row : List FieldPart) (s : ℕ) → rows ≡ map (row_of d) d.structs → AreHolding d flags
     → AreSizes d sizes → s < length sizes → slice_get rows s ≡ Some row → AreSizes d (settled flags sizes row s)
 settled-sound d flags rows sizes row s made holding sound within is t m h = by_test t m h (nat_eq s t) refl
   where
@@ -94,12 +95,12 @@ part-known : (flags : List Bool) (sizes : List (Option ℕ)) (p : Part) → ((t 
 part-known flags sizes (parts.Plain n) h = refl
 part-known flags sizes (parts.Struct s) h = struct-known (is_flagged (slice_get flags s)) (size_in (slice_get sizes s)) (h s (number_self s))
 
-pub sum-known : (flags : List Bool) (sizes : List (Option ℕ)) (row : List Part) (n : ℕ) → ((t : ℕ) → has_struct row t ≡ true → is_flagged (slice_get flags t) ≡ false → IsKnown sizes t)
+pub sum-known : (flags : List Bool) (sizes : List (Option ℕ)) (row : List FieldPart) (n : ℕ) → ((t : ℕ) → has_struct row t ≡ true → is_flagged (slice_get flags t) ≡ false → IsKnown sizes t)
     → is_some (sum_after flags sizes (Some n) row) ≡ true
 sum-known flags sizes [] n h = refl
 sum-known flags sizes (p ∷ ps) n h =
-    by_bytes (part_bytes flags sizes p) (part-known flags sizes p (λ t e. h t (or-left (is_struct t p) (has_struct ps t) e)))
-    (λ m. sum-known flags sizes ps m (λ t e. h t (or-right (is_struct t p) (has_struct ps t) e)))
+    by_bytes (part_bytes flags sizes p.part) (part-known flags sizes p.part (λ t e. h t (or-left (is_struct t p.part) (has_struct ps t) e)))
+    (λ m. sum-known flags sizes ps m (λ t e. h t (or-right (is_struct t p.part) (has_struct ps t) e)))
   where
     by_bytes : (bytes : Option ℕ) → is_some bytes ≡ true → ((m : ℕ) → is_some (sum_after flags sizes (Some m) ps) ≡ true) → is_some (sum_after flags sizes (added (Some n) bytes) ps) ≡ true
     by_bytes None e others = absurd (cc e)
@@ -134,7 +135,7 @@ take-next (k ∷ ks) (suc i) a b e h = by_test (take-next ks i a b e) (nat_eq b 
     by_test others true f g = inr (or-left (nat_eq b k) (holds (take i ks) b) f)
     by_test others false f g = elim (others g) [ inl p ↦ inl p | inr q ↦ inr (or-right (nat_eq b k) (holds (take i ks) b) q) ]
 
-pub settled-known : (flags : List Bool) (rows : List (List Part)) (order : List ℕ) (sizes : List (Option ℕ)) (row : List Part) (i s : ℕ) → IsSettlingOrder flags rows order → s < length sizes
+pub settled-known : (flags : List Bool) (rows : List (List FieldPart)) (order : List ℕ) (sizes : List (Option ℕ)) (row : List FieldPart) (i s : ℕ) → IsSettlingOrder flags rows order → s < length sizes
     → slice_get order i ≡ Some s → slice_get rows s ≡ Some row → AreKnown (take i order) sizes → AreKnown (take (i + 1) order) (settled flags sizes row s)
 settled-known flags rows order sizes row i s h within at is known t k = by_test t (nat_eq s t) refl (take-next order i s t at k)
   where
@@ -151,30 +152,30 @@ settled-known flags rows order sizes row i s h within at is known t k = by_test 
     by_test t false f (inl p) = absurd (cc (p, f))
     by_test t false f (inr q) = ap (λ y. is_some (size_in y)) (set-other sizes s t x f) ∙ known t q
 
-row-within : (rows : List (List Part)) (s : ℕ) (row : List Part) → slice_get rows s ≡ Some row → s < length rows
+row-within : (rows : List (List FieldPart)) (s : ℕ) (row : List FieldPart) → slice_get rows s ≡ Some row → s < length rows
 row-within [] s row h = absurd (cc h)
 row-within (r ∷ rs) zero row h = omega arith
 row-within (r ∷ rs) (suc s) row h = omega (arith, row-within rs s row h)
 
 -- After the pass all are settled.
-pub all-settled : (flags : List Bool) (rows : List (List Part)) (order : List ℕ) (sizes : List (Option ℕ)) → IsSettlingOrder flags rows order → AreKnown order sizes → AreSettled flags sizes rows
+pub all-settled : (flags : List Bool) (rows : List (List FieldPart)) (order : List ℕ) (sizes : List (Option ℕ)) → IsSettlingOrder flags rows order → AreKnown order sizes → AreSettled flags sizes rows
 all-settled flags rows order sizes h known s row is e = known s (h.every s (row-within rows s row is))
 
 -- An order of the structs settles their rows.
-length-map : (d : Declared) (structs : List Structure) → length (map (row_of d) structs) ≡ length structs
+pub length-map : (d : Declared) (structs : List Structure) → length (map (row_of d) structs) ≡ length structs
 length-map d [] = refl
 length-map d (x ∷ xs) = ap suc (length-map d xs)
 
-has-held : (d : Declared) (t : ℕ) (vs : List Variable) → has_struct (map (part_of d) vs) t ≡ list_any (λ v. is_the t (struct_held d v.of)) vs
+pub has-held : (d : Declared) (t : ℕ) (vs : List Variable) → has_struct (map (field_of d) vs) t ≡ list_any (λ v. is_the t (struct_held d v.of)) vs
 has-held d t [] = refl
 has-held d t (v ∷ vs) =
-    ap (λ b. b || has_struct (map (part_of d) vs) t) (one (plain_bytes d v.of) (struct_held d v.of)) ∙ ap (λ b. is_the t (struct_held d v.of) || b) (has-held d t vs)
+    ap (λ b. b || has_struct (map (field_of d) vs) t) (one (plain_bytes d v.of) (struct_held d v.of)) ∙ ap (λ b. is_the t (struct_held d v.of) || b) (has-held d t vs)
   where
     one : (bytes : ℕ) (held : Option ℕ) → is_struct t (part_with bytes held) ≡ is_the t held
     one bytes None = refl
     one bytes (Some s) = refl
 
-row-holds : (d : Declared) (structs : List Structure) (s t : ℕ) (row : List Part) → slice_get (map (row_of d) structs) s ≡ Some row
+row-holds : (d : Declared) (structs : List Structure) (s t : ℕ) (row : List FieldPart) → slice_get (map (row_of d) structs) s ≡ Some row
     → has_struct row t ≡ list_any (λ v. is_the t (struct_held d v.of)) (fields_at (slice_get structs s))
 row-holds d [] s t row h = absurd (cc h)
 row-holds d (x ∷ xs) zero t row h = let same : row_of d x ≡ row = cc h in ap (λ r. has_struct r t) (sym same) ∙ has-held d t x.fields

@@ -6,7 +6,7 @@ use Rattle.wf_ast.specs.declared.parsed.ExprNode.{ExprNode}
 use Rattle.wf_ast.specs.declared.parsed.StmtNode.{StmtNode}
 use Rattle.wf_ast.specs.ParsedTrees.{expr_trees, stmt_trees, decl_trees, decl_made, decls_made}
 use Rattle.wf_names_rules.specs.Declarations.{Structure, Declared, structs_of}
-use Rattle.wf_names_sizes.specs.declared.parts.Part.{Part}
+use Rattle.wf_names_sizes.specs.declared.parts.FieldPart.{FieldPart}
 use Rattle.wf_names_sizes.specs.StructSizes.{row_of}
 use Rattle.wf_names_sizes.proofs.ArrayLemmas.{structs-append}
 use Rattle.wf_names_sizes.proofs.ValueLemmas.{decl-there, decls-over}
@@ -24,7 +24,7 @@ module _ (exprs : List ExprNode) (stmts : List StmtNode) (ds : List DeclNode) (i
   structs_none h = ap structs_of (decls-over (expr_trees exprs) (stmt_trees exprs stmts) ds i h)
 
 -- Rows.
-assoc : (xs ys zs : List (List Part)) → (xs ++ ys) ++ zs ≡ xs ++ (ys ++ zs)
+assoc : (xs ys zs : List (List FieldPart)) → (xs ++ ys) ++ zs ≡ xs ++ (ys ++ zs)
 assoc [] ys zs = refl
 assoc (x ∷ xs) ys zs = ap (λ rest. x ∷ rest) (assoc xs ys zs)
 
@@ -32,11 +32,11 @@ map-append : (d : Declared) (xs ys : List Structure) → map (row_of d) (xs ++ y
 map-append d [] ys = refl
 map-append d (x ∷ xs) ys = ap (λ rest. row_of d x ∷ rest) (map-append d xs ys)
 
-pub rows_step : (d : Declared) (old new : List (List Part)) (these others all : List Structure) → new ≡ old ++ map (row_of d) these → all ≡ these ++ others
+pub rows_step : (d : Declared) (old new : List (List FieldPart)) (these others all : List Structure) → new ≡ old ++ map (row_of d) these → all ≡ these ++ others
     → new ++ map (row_of d) others ≡ old ++ map (row_of d) all
 rows_step d old new these others all e f =
     ap (λ xs. xs ++ map (row_of d) others) e ∙ assoc old (map (row_of d) these) (map (row_of d) others)
     ∙ ap (λ ys. old ++ ys) (sym (map-append d these others) ∙ ap (map (row_of d)) (sym f))
 
-pub rows_end : (d : Declared) (rows : List (List Part)) (structs : List Structure) → structs ≡ [] → rows ≡ rows ++ map (row_of d) structs
+pub rows_end : (d : Declared) (rows : List (List FieldPart)) (structs : List Structure) → structs ≡ [] → rows ≡ rows ++ map (row_of d) structs
 rows_end d rows structs h = sym (ap (λ xs. rows ++ map (row_of d) xs) h ∙ append-nil rows)

@@ -7,8 +7,8 @@ use Rattle.wf_names_rules.specs.Passes.{is_flagged}
 use Rattle.wf_names_rules.specs.Sizes.{plain_bytes, struct_held, fields_at, holds_struct, Take, nothing, plain, part, cycle}
 use Rattle.wf_ast.specs.ParsedTree as tree
 use Rattle.wf_ast.specs.ParsedTree.{TypeTree}
-use Rattle.wf_names_sizes.specs.declared.parts.Part.{Part}
-use Rattle.wf_names_sizes.specs.StructSizes.{capped, part_with, part_of, row_of, added, struct_bytes, size_in, part_bytes, sum_after, AreHolding, AreSizes, AreSettled}
+use Rattle.wf_names_sizes.specs.declared.parts.FieldPart.{FieldPart}
+use Rattle.wf_names_sizes.specs.StructSizes.{capped, part_with, part_of, field_of, row_of, added, struct_bytes, size_in, part_bytes, sum_after, AreHolding, AreSizes, AreSettled}
 
 some_same : {X : Type 0} (x y : X) → Some x ≡ Some y → x ≡ y
 some_same x y e = cc e
@@ -128,7 +128,7 @@ position-there test k (x ∷ xs) s h = by_test (position-there test (k + 1) xs s
         let r = others (let more : position_from test (k + 1) xs ≡ Some s = cc (h, e) in more) in
         (suc r.0, (r.1.0, (omega (arith, r.1.1.0), r.1.1.1)))
 
-held-there : (d : Declared) (t : TypeTree) (s : ℕ) → struct_held d t ≡ Some s → (structure : Structure) × (slice_get d.structs s ≡ Some structure)
+pub held-there : (d : Declared) (t : TypeTree) (s : ℕ) → struct_held d t ≡ Some s → (structure : Structure) × (slice_get d.structs s ≡ Some structure)
 held-there d (tree.slice_of at element) s h = absurd (cc h)
 held-there d (tree.array_of length at element) s h = absurd (cc h)
 held-there d (tree.base_type name at bounds) s h = absurd (cc h)
@@ -153,7 +153,7 @@ not_true true h = absurd (h refl)
 not_true false h = refl
 
 module _ (d : Declared) (flags : List Bool) (sizes : List (Option ℕ)) (holding : AreHolding d flags) (sound : AreSizes d sizes) where
-  pub sum-none : (ps : List Part) → sum_after flags sizes None ps ≡ None
+  pub sum-none : (ps : List FieldPart) → sum_after flags sizes None ps ≡ None
   sum-none [] = refl
   sum-none (p ∷ ps) = sum-none ps
 
@@ -173,31 +173,31 @@ module _ (d : Declared) (flags : List Bool) (sizes : List (Option ℕ)) (holding
       held-bytes v s h ∙ ap (λ b. struct_bytes b (size_in (slice_get sizes s))) (not_true (is_flagged (slice_get flags s)) (λ t. off (holding.sound s t))) ∙ ap (struct_bytes false) e
 
   -- One field more.
-  sum-step : (a b c : ℕ) (p : Part) (ps : List Part) → part_bytes flags sizes p ≡ Some b → capped (capped a + b) ≡ capped c
+  sum-step : (a b c : ℕ) (p : FieldPart) (ps : List FieldPart) → part_bytes flags sizes p.part ≡ Some b → capped (capped a + b) ≡ capped c
       → sum_after flags sizes (Some (capped a)) (p ∷ ps) ≡ sum_after flags sizes (Some (capped c)) ps
   sum-step a b c p ps h e = ap (λ x. sum_after flags sizes (added (Some (capped a)) x) ps) h ∙ ap (λ n. sum_after flags sizes (Some n) ps) e
 
   -- What fields take is known, where all sizes are known that can be.
   module _ (settled : AreSettled flags sizes (map (row_of d) d.structs)) where
-    pub sum-takes : (vs : List Variable) (m a : ℕ) → Take d vs m → sum_after flags sizes (Some (capped a)) (map (part_of d) vs) ≡ Some (capped (a + m))
+    pub sum-takes : (vs : List Variable) (m a : ℕ) → Take d vs m → sum_after flags sizes (Some (capped a)) (map (field_of d) vs) ≡ Some (capped (a + m))
     sum-takes _ _ a nothing = ap (λ n. Some (capped n)) (let e : a ≡ a + 0 = omega arith in e)
     sum-takes _ _ a (plain v vs n h t) =
-        sum-step a (capped (plain_bytes d v.of)) (a + plain_bytes d v.of) (part_of d v) (map (part_of d) vs) (plain-bytes v h) (capped-twice a (plain_bytes d v.of))
+        sum-step a (capped (plain_bytes d v.of)) (a + plain_bytes d v.of) (field_of d v) (map (field_of d) vs) (plain-bytes v h) (capped-twice a (plain_bytes d v.of))
         ∙ sum-takes vs n (a + plain_bytes d v.of) t ∙ ap (λ k. Some (capped k)) (let e : a + plain_bytes d v.of + n ≡ a + (plain_bytes d v.of + n) = omega arith in e)
     sum-takes _ _ a (part v vs s inner n h off t u) =
         let there = held-there d v.of s h in
         let fields : fields_at (slice_get d.structs s) ≡ there.0.fields = ap fields_at there.1 in
         let sums : sum_after flags sizes (Some 0) (row_of d there.0) ≡ Some (capped inner) =
-        ap (λ xs. sum_after flags sizes (Some 0) (map (part_of d) xs)) (sym fields) ∙ sum-takes (fields_at (slice_get d.structs s)) inner 0 t ∙ ap (λ k. Some (capped k)) (let e : 0 + inner ≡ inner = omega arith in e) in
+        ap (λ xs. sum_after flags sizes (Some 0) (map (field_of d) xs)) (sym fields) ∙ sum-takes (fields_at (slice_get d.structs s)) inner 0 t ∙ ap (λ k. Some (capped k)) (let e : 0 + inner ≡ inner = omega arith in e) in
         let known = known_some (size_in (slice_get sizes s)) (settled s (row_of d there.0) (row-there d d.structs s there.0 there.1) (ap is_some sums)) in
         let size = sound s known.0 known.1 in
         let whole : size.whole ≡ inner = take-one d (fields_at (slice_get d.structs s)) size.whole inner size.takes t in
         let number : known.0 ≡ capped inner = size.is ∙ ap capped whole in
         let one : part_bytes flags sizes (part_of d v) ≡ Some (capped (8 + capped inner)) = part-known v s known.0 h off known.1 ∙ ap (λ k. Some (capped (8 + k))) number in
-        sum-step a (capped (8 + capped inner)) (a + (8 + inner)) (part_of d v) (map (part_of d) vs) one (let e : capped (capped a + capped (8 + capped inner)) ≡ capped (a + (8 + inner)) = omega arith in e)
+        sum-step a (capped (8 + capped inner)) (a + (8 + inner)) (field_of d v) (map (field_of d) vs) one (let e : capped (capped a + capped (8 + capped inner)) ≡ capped (a + (8 + inner)) = omega arith in e)
         ∙ sum-takes vs n (a + (8 + inner)) u ∙ ap (λ k. Some (capped k)) (let e : a + (8 + inner) + n ≡ a + (8 + inner + n) = omega arith in e)
     sum-takes _ _ a (cycle v vs s n h p t) =
-        sum-step a 8 (a + 8) (part_of d v) (map (part_of d) vs) (cycle-bytes v s h p) (let e : capped (capped a + 8) ≡ capped (a + 8) = omega arith in e)
+        sum-step a 8 (a + 8) (field_of d v) (map (field_of d) vs) (cycle-bytes v s h p) (let e : capped (capped a + 8) ≡ capped (a + 8) = omega arith in e)
         ∙ sum-takes vs n (a + 8) t ∙ ap (λ k. Some (capped k)) (let e : a + 8 + n ≡ a + (8 + n) = omega arith in e)
 
   -- What is known of fields is what they take.
@@ -231,16 +231,16 @@ module _ (d : Declared) (flags : List Bool) (sizes : List (Option ℕ)) (holding
           (plain_bytes d v.of + 0, (plain v [] 0 e nothing, omega (arith, same)))
       by_held (Some s) e = by_flag s e (is_flagged (slice_get flags s)) refl
 
-  pub sum-taken : (vs : List Variable) (a n : ℕ) → sum_after flags sizes (Some (capped a)) (map (part_of d) vs) ≡ Some n
+  pub sum-taken : (vs : List Variable) (a n : ℕ) → sum_after flags sizes (Some (capped a)) (map (field_of d) vs) ≡ Some n
       → (whole : ℕ) × (Take d vs whole × (n ≡ capped (a + whole)))
   sum-taken [] a n h = (0, (nothing, (let same : capped a ≡ n = cc h in omega (arith, same))))
   sum-taken (v ∷ vs) a n h = by_bytes (λ b. sum-taken vs b n) (part_bytes flags sizes (part_of d v)) refl
     where
-      by_bytes : ((b : ℕ) → sum_after flags sizes (Some (capped b)) (map (part_of d) vs) ≡ Some n → (whole : ℕ) × (Take d vs whole × (n ≡ capped (b + whole)))) → (bytes : Option ℕ) → part_bytes flags sizes (part_of d v) ≡ bytes → (whole : ℕ) × (Take d (v ∷ vs) whole × (n ≡ capped (a + whole)))
+      by_bytes : ((b : ℕ) → sum_after flags sizes (Some (capped b)) (map (field_of d) vs) ≡ Some n → (whole : ℕ) × (Take d vs whole × (n ≡ capped (b + whole)))) → (bytes : Option ℕ) → part_bytes flags sizes (part_of d v) ≡ bytes → (whole : ℕ) × (Take d (v ∷ vs) whole × (n ≡ capped (a + whole)))
       by_bytes others None e =
-          absurd (let off : None ≡ Some n = sym (ap (λ x. sum_after flags sizes (added (Some (capped a)) x) (map (part_of d) vs)) e ∙ sum-none (map (part_of d) vs)) ∙ h in cc off)
+          absurd (let off : None ≡ Some n = sym (ap (λ x. sum_after flags sizes (added (Some (capped a)) x) (map (field_of d) vs)) e ∙ sum-none (map (field_of d) vs)) ∙ h in cc off)
       by_bytes others (Some b) e =
           let first = one-field v b e in
           let way : capped (capped a + b) ≡ capped (a + first.0) = ap (λ k. capped (capped a + k)) first.1.1 ∙ capped-twice a first.0 in
-          let rest = others (a + first.0) (sym (sum-step a b (a + first.0) (part_of d v) (map (part_of d) vs) e way) ∙ h) in
+          let rest = others (a + first.0) (sym (sum-step a b (a + first.0) (field_of d v) (map (field_of d) vs) e way) ∙ h) in
           (first.0 + rest.0, (take-append d (v ∷ []) vs first.0 rest.0 first.1.0 rest.1.0, (rest.1.1 ∙ ap capped (let e : a + first.0 + rest.0 ≡ a + (first.0 + rest.0) = omega arith in e))))

@@ -1,11 +1,10 @@
 -- Values by tables are the values by the list of the constants before it.
 use Rattle.std.proofs.Common.{◌≡◌, ℕ, ◌+◌, Bool, true, false, if◌then◌else◌, List, [], ◌∷◌, ◌++◌, Option, Some, None, nat_eq, cond, length, Result, Ok, Err, IfOk, OnOk, take, slice_index_or, ◌<◌, ◌≤◌, zero, suc, slice_get, drop, refl, sym, ap, ◌∙◌, subst, arith}
-use Rattle.std.specs.List.{find, list_any}
+use Rattle.std.specs.List.{find}
 use Rattle.std.specs.Map.{lookup}
 use Rattle.std.specs.Option.{option_or}
 use Rattle.std.proofs.lemmas.List.Folds.{find-append}
 use Rattle.indexmap.specs.IndexMap.{IndexMap, get}
-use Rattle.indexmap.specs.IndexSet.{IndexSet, contains}
 use Rattle.wf_base.specs.declared.widths.Width.{Width}
 use Rattle.wf_base.specs.BaseTable.{bits_of}
 use Rattle.wf_ast.specs.declared.operators.Op.{Op}
@@ -29,9 +28,10 @@ use Rattle.wf_ast.specs.ParsedTrees.{expr_at, links_at, core_at, all_prefixed, b
 use Rattle.wf_names_rules.specs.Declarations.{Declared, Constant, is_spelt, text_of, constants_of}
 use Rattle.wf_names_rules.specs.Meanings.{width_of}
 use Rattle.wf_names_rules.specs.ConstantValues.{Sized, Valued, Running, started, run_on, ended, converted, bounded, known_value, named_value, plain_width, value_of, links_value, low_value, refined_value, typed_value, constant_value, known_from}
-use Rattle.wf_names_sizes.specs.declared.numbers.Value.{Value}
+use Rattle.wf_names_sizes.specs.declared.environment.Environment.{Environment}
+use Rattle.wf_names_sizes.specs.declared.numbers.ConstantValue.{ConstantValue}
 use Rattle.wf_names_sizes.specs.Capped.{sized}
-use Rattle.wf_names_sizes.specs.ValuesBy.{with_first, stored, stored_value, valued, Knows, constant_by, plain_by, value_by, links_by, low_by, refined_by}
+use Rattle.wf_names_sizes.specs.ValuesBy.{with_first, stored, stored_value, valued, Knows, hides, constant_by, plain_by, value_by, links_by, low_by, refined_by}
 
 stored_valued : (k : Option Valued) → stored_value (valued k) ≡ known_value k
 stored_valued None = refl
@@ -41,13 +41,13 @@ bare_same : (b c : Bool) (x y : Option Sized) → b ≡ c → x ≡ y → (if b 
 bare_same b c x y e f = ap (λ t. if t then None else x) e ∙ ap (λ v. if c then None else v) f
 
 -- A name's value by the tables.
-pub constant_is : {S T : Type 0} (table : IndexMap ℕ (Option Value) S) (set : IndexSet ℕ T) (known : List Valued) (hidden : ℕ → Bool) → Knows table known
-    → ((text : ℕ) → contains nat_eq set text ≡ hidden text) → (root : Root) (text : ℕ) → constant_by table set root text ≡ named_value hidden known root text
-constant_is table set known hidden k h roots.Bare text =
-    bare_same (contains nat_eq set text) (hidden text) (stored_value (stored (get nat_eq table text))) (known_value (find (λ k. is_spelt text k.name) known)) (h text)
+pub constant_is : (env : Environment) (known : List Valued) (hidden : ℕ → Bool) → Knows env.constants.now known
+    → ((text : ℕ) → hides env.locals text ≡ hidden text) → (root : Root) (text : ℕ) → constant_by env root text ≡ named_value hidden known root text
+constant_is env known hidden k h roots.Bare text =
+    bare_same (hides env.locals text) (hidden text) (stored_value (stored (get nat_eq env.constants.now text))) (known_value (find (λ k. is_spelt text k.name) known)) (h text)
     (ap stored_value (k text) ∙ stored_valued (find (λ k. is_spelt text k.name) known))
-constant_is table set known hidden k h roots.This text = refl
-constant_is table set known hidden k h roots.Args text = refl
+constant_is env known hidden k h roots.This text = refl
+constant_is env known hidden k h roots.Args text = refl
 
 pub plain_is : (d : Declared) (t : TypeTree) → plain_by (text_of d) t ≡ plain_width d t
 plain_is d (tree.slice_of at element) = refl
@@ -131,34 +131,34 @@ pub deep_width : (bytes : ℕ → List ℕ) (es : List ExprTree) (ps : List Pref
 deep_width bytes es [] of h = absurd (omega (arith, h))
 deep_width bytes es (p ∷ ps) of h = sym (prefixed_width bytes es p ps of)
 
--- Nothing is hidden by a set without keys.
-pub not_hidden : {S : Type 0} (set : IndexSet ℕ S) → set.keys ≡ [] → (text : ℕ) → contains nat_eq set text ≡ false
-not_hidden set h text = ap (λ keys. list_any (nat_eq text) keys) h
+-- Nothing is hidden outside methods.
+pub not_hidden : (env : Environment) → env.locals ≡ None → (text : ℕ) → hides env.locals text ≡ false
+not_hidden env h text = ap (λ locals. hides locals text) h
 
 -- A constant's value by the tables.
-pub constant_value_is : {S T : Type 0} (d : Declared) (es : List ExprTree) (table : IndexMap ℕ (Option Value) S) (set : IndexSet ℕ T) (known : List Valued) → set.keys ≡ [] → Knows table known
+pub constant_value_is : (d : Declared) (es : List ExprTree) (env : Environment) (known : List Valued) → env.locals ≡ None → Knows env.constants.now known
     → (of : TypeExpr) (width : Width) (number : ExprId) (name : Name) (a r : Option Sized) → Some width ≡ width_of (text_of d) (type_at es of)
-    → a ≡ value_by (text_of d) (constant_by table set) (expr_at es number)
-    → r ≡ refined_by (value_by (text_of d) (constant_by table set)) (bits_of width) (bounds_at es of.bounds) a
+    → a ≡ value_by (text_of d) (constant_by env) (expr_at es number)
+    → r ≡ refined_by (value_by (text_of d) (constant_by env)) (bits_of width) (bounds_at es of.bounds) a
     → r ≡ constant_value d known (record { name = name; of = type_at es of; value = expr_at es number })
-constant_value_is d es table set known empty k of width number name a r h e f =
-    let value : ExprTree → Option Sized = value_by (text_of d) (constant_by table set) in
-    let same : (e : ExprTree) → value e ≡ value_of d (λ text. false) known e = value_is d (λ text. false) known (constant_by table set) (constant_is table set known (λ text. false) k (not_hidden set empty)) in
+constant_value_is d es env known outside k of width number name a r h e f =
+    let value : ExprTree → Option Sized = value_by (text_of d) (constant_by env) in
+    let same : (e : ExprTree) → value e ≡ value_of d (λ text. false) known e = value_is d (λ text. false) known (constant_by env) (constant_is env known (λ text. false) k (not_hidden env outside)) in
     f ∙ refined_is d known value same (bits_of width) (bounds_at es of.bounds) a ∙ ap (refined_value d known (bits_of width) (bounds_at es of.bounds)) (e ∙ same (expr_at es number))
     ∙ sym (typed_is d known es of.prefixes of.core of.bounds width (value_of d (λ text. false) known (expr_at es number)) h)
 
 -- One more constant in a table.
-or_valued : (x y : Option (Option Value)) (a b : Option Valued) → stored x ≡ valued a → stored y ≡ valued b → stored (option_or x y) ≡ valued (option_or a b)
+or_valued : (x y : Option (Option ConstantValue)) (a b : Option Valued) → stored x ≡ valued a → stored y ≡ valued b → stored (option_or x y) ≡ valued (option_or a b)
 or_valued None y None b h k = k
 or_valued None y (Some a) b h k = absurd (cc h)
 or_valued (Some x) y None b h k = absurd (cc h)
 or_valued (Some x) y (Some a) b h k = h
 
-one_valued : (t : Bool) (v : Option Value) (k : Valued) → sized v ≡ k.value → stored (cond t (Some v) None) ≡ valued (cond t (Some k) None)
+one_valued : (t : Bool) (v : Option ConstantValue) (k : Valued) → sized v ≡ k.value → stored (cond t (Some v) None) ≡ valued (cond t (Some k) None)
 one_valued true v k h = ap (λ x. Some x) h
 one_valued false v k h = refl
 
-pub knows_more : {S T : Type 0} (old : IndexMap ℕ (Option Value) S) (new : IndexMap ℕ (Option Value) T) (known : List Valued) (k : Valued) (v : Option Value)
+pub knows_more : {S T : Type 0} (old : IndexMap ℕ (Option ConstantValue) S) (new : IndexMap ℕ (Option ConstantValue) T) (known : List Valued) (k : Valued) (v : Option ConstantValue)
     → ((other : ℕ) → get nat_eq new other ≡ with_first (get nat_eq old) k.name.text.0 v other) → sized v ≡ k.value → Knows old known → Knows new (known ++ k ∷ [])
 knows_more old new known k v grows same knows text =
     ap stored (grows text) ∙ or_valued (get nat_eq old text) (cond (nat_eq k.name.text.0 text) (Some v) None) (find (λ x. is_spelt text x.name) known) (find (λ x. is_spelt text x.name) (k ∷ [])) (knows text) (one_valued (nat_eq k.name.text.0 text) v k same)
@@ -229,7 +229,7 @@ on_ok (Ok x) f h = f h
 on_ok (Err e) f h = h
 
 -- A table without entries.
-pub empty_knows : {S : Type 0} (table : IndexMap ℕ (Option Value) S) → table.entries ≡ [] → Knows table []
+pub empty_knows : {S : Type 0} (table : IndexMap ℕ (Option ConstantValue) S) → table.entries ≡ [] → Knows table []
 empty_knows table h text = ap (λ entries. stored (lookup (nat_eq text) entries)) h
 
 pub if_ok : {X Y : Type 0} (P Q : X → Type 0) (r : Result X Y) → ((x : X) → P x → Q x) → IfOk r P → IfOk r Q

@@ -5,7 +5,7 @@ use Rattle.wf_base.specs.BaseTable.{bits_of}
 use Rattle.wf_ast.specs.declared.operators.Op.{Op}
 use Rattle.wf_ast.specs.declared.operators.Op.TheVariants as ops
 use Rattle.wf_names_rules.specs.ConstantValues.{Sized, Running}
-use Rattle.wf_names_sizes.specs.declared.numbers.Value.{Value}
+use Rattle.wf_names_sizes.specs.declared.numbers.ConstantValue.{ConstantValue}
 use Rattle.wf_names_sizes.specs.declared.chains.Chain.{Chain}
 
 abbrev pub bits_in : Option Width → Option ℕ
@@ -13,7 +13,7 @@ bits_in None = None
 bits_in (Some width) = Some (bits_of width)
 
 -- The value that the code's value is.
-abbrev pub sized : Option Value → Option Sized
+abbrev pub sized : Option ConstantValue → Option Sized
 sized None = None
 sized (Some v) = Some (record { bits = bits_in v.width; number = v.number })
 

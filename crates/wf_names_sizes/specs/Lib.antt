@@ -2,7 +2,6 @@ pub mod Capped
 pub mod Deciding
 pub mod LongArrays
 pub mod Orders
-pub mod Packages
 pub mod StructSizes
 pub mod ValuesBy
 pub mod Settings

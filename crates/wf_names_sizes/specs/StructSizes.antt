@@ -1,16 +1,15 @@
 -- The sizes of structs: each struct's size is known once those that it holds are known. Numbers above the limit all
 -- count as the one above it.
 use Rattle.std.specs.Prelude.{◌≡◌, ℕ, ◌+◌, ◌<◌, ◌≤◌, Bool, true, false, not, ◌&&◌, List, [], ◌∷◌, ◌++◌, map, Option, Some, None, slice_get, is_some, nat_lt, min}
-use Rattle.std.specs.List.{position_from}
+use Rattle.std.specs.List.{flat_map}
 use Rattle.wf_text.specs.declared.rules.Refusal.{Refusal}
 use Rattle.wf_text.specs.declared.rules.Rule.TheVariants.{L7}
-use Rattle.wf_names_rules.specs.declared.tables.Numbers.{Numbers}
-use Rattle.wf_names_rules.specs.Declarations.{Variable, Structure, Declared, is_spelt}
-use Rattle.wf_names_rules.specs.Tables.{number_at}
+use Rattle.wf_names_rules.specs.Declarations.{Variable, Structure, Declared}
 use Rattle.wf_names_rules.specs.Sizes.{plain_bytes, struct_held, fields_at, holds_struct, Take}
 use Rattle.graphs.specs.Graphs.{Path}
 use Rattle.wf_names_rules.specs.Passes.{refused_if, is_flagged}
 use Rattle.wf_names_rules.specs.NameRules.{IsStructure}
+use Rattle.wf_names_sizes.specs.declared.parts.FieldPart.{FieldPart}
 use Rattle.wf_names_sizes.specs.declared.parts.Part.{Part}
 use Rattle.wf_names_sizes.specs.declared.parts.Part.TheVariants as parts
 
@@ -25,8 +24,20 @@ part_with bytes (Some s) = parts.Struct s
 abbrev pub part_of : Declared → Variable → Part
 part_of d v = part_with (plain_bytes d v.of) (struct_held d v.of)
 
-abbrev pub row_of : Declared → Structure → List Part
-row_of d s = map (part_of d) s.fields
+-- The same with its name, and those of a struct.
+abbrev pub field_of : Declared → Variable → FieldPart
+field_of d v = record { name = v.name; part = part_of d v }
+
+abbrev pub row_of : Declared → Structure → List FieldPart
+row_of d s = map (field_of d) s.fields
+
+-- The structs that fields hold, by their numbers.
+abbrev pub struct_in : Part → List ℕ
+struct_in (parts.Plain bytes) = []
+struct_in (parts.Struct s) = s ∷ []
+
+abbrev pub structs_in : List FieldPart → List ℕ
+structs_in fields = flat_map (λ f. struct_in f.part) fields
 
 -- Two sizes together, where both are known.
 abbrev pub added : Option ℕ → Option ℕ → Option ℕ
@@ -48,9 +59,9 @@ abbrev pub part_bytes : (flags : List Bool) → (sizes : List (Option ℕ)) → 
 part_bytes flags sizes (parts.Plain n) = Some n
 part_bytes flags sizes (parts.Struct s) = struct_bytes (is_flagged (slice_get flags s)) (size_in (slice_get sizes s))
 
-abbrev pub sum_after : (flags : List Bool) → (sizes : List (Option ℕ)) → (sum : Option ℕ) → List Part → Option ℕ
+abbrev pub sum_after : (flags : List Bool) → (sizes : List (Option ℕ)) → (sum : Option ℕ) → List FieldPart → Option ℕ
 sum_after flags sizes sum [] = sum
-sum_after flags sizes sum (p ∷ ps) = sum_after flags sizes (added sum (part_bytes flags sizes p)) ps
+sum_after flags sizes sum (f ∷ fs) = sum_after flags sizes (added sum (part_bytes flags sizes f.part)) fs
 
 -- The sum is beyond the limit now, and wasn't before.
 abbrev pub passes : Option ℕ → Option ℕ → Bool
@@ -59,14 +70,14 @@ passes (Some a) None = false
 passes (Some a) (Some b) = not (nat_lt 1048576 a) && nat_lt 1048576 b
 
 -- The field of a list that passes the limit; `sum` is that of the fields before it.
-abbrev pub too_large_struct : Declared → (flags : List Bool) → (sizes : List (Option ℕ)) → (sum : Option ℕ) → List Variable → List (Option Refusal)
-too_large_struct d flags sizes sum [] = []
-too_large_struct d flags sizes sum (v ∷ vs) =
-    refused_if (passes sum (added sum (part_bytes flags sizes (part_of d v)))) L7 v.name.at
-    ∷ too_large_struct d flags sizes (added sum (part_bytes flags sizes (part_of d v))) vs
+abbrev pub too_large_struct : (flags : List Bool) → (sizes : List (Option ℕ)) → (sum : Option ℕ) → List FieldPart → List (Option Refusal)
+too_large_struct flags sizes sum [] = []
+too_large_struct flags sizes sum (f ∷ fs) =
+    refused_if (passes sum (added sum (part_bytes flags sizes f.part))) L7 f.name.at
+    ∷ too_large_struct flags sizes (added sum (part_bytes flags sizes f.part)) fs
 
 abbrev pub struct_large : Declared → (flags : List Bool) → (sizes : List (Option ℕ)) → Structure → List (Option Refusal)
-struct_large d flags sizes s = too_large_struct d flags sizes (Some 0) s.fields
+struct_large d flags sizes s = too_large_struct flags sizes (Some 0) (row_of d s)
 
 -- Flags of the structs: whether one holds itself.
 pub record AreHolding (d : Declared) (flags : List Bool) : Type 0 where
@@ -84,15 +95,11 @@ abbrev pub AreSizes : Declared → (sizes : List (Option ℕ)) → Type 0
 AreSizes d sizes = (s n : ℕ) → size_in (slice_get sizes s) ≡ Some n → TakesCapped d (fields_at (slice_get d.structs s)) n
 
 -- A struct's size is known if the sizes are of all that it holds.
-abbrev pub IsSettled : (flags : List Bool) → (sizes : List (Option ℕ)) → List Part → ℕ → Type 0
+abbrev pub IsSettled : (flags : List Bool) → (sizes : List (Option ℕ)) → List FieldPart → ℕ → Type 0
 IsSettled flags sizes row s = is_some (sum_after flags sizes (Some 0) row) ≡ true → is_some (size_in (slice_get sizes s)) ≡ true
 
-abbrev pub AreSettled : (flags : List Bool) → (sizes : List (Option ℕ)) → (rows : List (List Part)) → Type 0
-AreSettled flags sizes rows = (s : ℕ) (row : List Part) → slice_get rows s ≡ Some row → IsSettled flags sizes row s
-
--- The numbers of the structs by their names.
-abbrev pub AreNumbers : Numbers → List Structure → Type 0
-AreNumbers table structs = (text : ℕ) → number_at table text ≡ position_from (λ s. is_spelt text s.name) 0 structs
+abbrev pub AreSettled : (flags : List Bool) → (sizes : List (Option ℕ)) → (rows : List (List FieldPart)) → Type 0
+AreSettled flags sizes rows = (s : ℕ) (row : List FieldPart) → slice_get rows s ≡ Some row → IsSettled flags sizes row s
 
 -- What the rule says: the field that passes the limit of a struct's bytes.
 pub record HasLargeField (d : Declared) (s : Refusal) : Type 0 where

@@ -1,23 +1,25 @@
 -- The values of constant expressions by tables: what the code finds.
-use Rattle.std.specs.Prelude.{◌≡◌, ℕ, List, Option, Some, None, nat_eq, if◌then◌else◌, cond}
+use Rattle.std.specs.Prelude.{◌≡◌, ℕ, Bool, false, List, Option, Some, None, is_some, nat_eq, if◌then◌else◌, cond}
+use Rattle.std.specs.Borrow.{Bor}
 use Rattle.std.specs.List.{find}
 use Rattle.std.specs.Option.{option_or}
 use Rattle.indexmap.specs.IndexMap.{IndexMap, get}
-use Rattle.indexmap.specs.IndexSet.{IndexSet, contains}
 use Rattle.wf_base.specs.declared.widths.Width.{Width}
 use Rattle.wf_ast.specs.declared.operators.Op.{Op}
 use Rattle.wf_ast.specs.declared.parsed.Root.TheVariants as roots
 use Rattle.wf_ast.specs.declared.parsed.Root.{Root}
 use Rattle.wf_ast.specs.ParsedTree as tree
 use Rattle.wf_ast.specs.ParsedTree.{ExprTree, PartTree, LinkTrees, TypeTree, BoundsTree}
-use Rattle.wf_names_rules.specs.Declarations.{is_spelt}
+use Rattle.wf_names_rules.specs.declared.tables.Variables.{Variables}
+use Rattle.wf_names_rules.specs.Declarations.{is_spelt, bytes_of}
 use Rattle.wf_names_rules.specs.Meanings.{width_named}
 use Rattle.wf_names_rules.specs.ConstantValues.{Sized, Valued, Running, fitted, started, run_on, ended, converted, bounded}
-use Rattle.wf_names_sizes.specs.declared.numbers.Value.{Value}
+use Rattle.wf_names_sizes.specs.declared.environment.Environment.{Environment}
+use Rattle.wf_names_sizes.specs.declared.numbers.ConstantValue.{ConstantValue}
 use Rattle.wf_names_sizes.specs.Capped.{sized}
 
 -- What a table has under a name, and the value of that.
-abbrev pub stored : Option (Option Value) → Option (Option Sized)
+abbrev pub stored : Option (Option ConstantValue) → Option (Option Sized)
 stored None = None
 stored (Some value) = Some (sized value)
 
@@ -34,13 +36,18 @@ abbrev pub with_first : {X : Type 0} → (look : ℕ → Option X) → ℕ → X
 with_first look key value other = option_or (look other) (cond (nat_eq key other) (Some value) None)
 
 -- A table has of each name what the list has first.
-abbrev pub Knows : {S : Type 0} → IndexMap ℕ (Option Value) S → List Valued → Type 0
+abbrev pub Knows : {S : Type 0} → IndexMap ℕ (Option ConstantValue) S → List Valued → Type 0
 Knows table known = (text : ℕ) → stored (get nat_eq table text) ≡ valued (find (λ k. is_spelt text k.name) known)
 
--- The value of a name, by the table of the constants and the set of the locals that hide them.
-abbrev pub constant_by : {S T : Type 0} → IndexMap ℕ (Option Value) S → IndexSet ℕ T → Root → ℕ → Option Sized
-constant_by table hidden roots.Bare text = if contains nat_eq hidden text then None else stored_value (stored (get nat_eq table text))
-constant_by table hidden _ text = None
+-- Whether a local hides a name.
+abbrev pub hides : Option (Bor Variables) → ℕ → Bool
+hides None text = false
+hides (Some locals) text = is_some (get nat_eq locals.now.entries text)
+
+-- The value of a name, by the constants and the locals that hide them.
+abbrev pub constant_by : Environment → Root → ℕ → Option Sized
+constant_by env roots.Bare text = if hides env.locals text then None else stored_value (stored (get nat_eq env.constants.now text))
+constant_by env _ text = None
 
 -- The width of a numeric type without bounds; `bytes` are those of each text.
 abbrev pub plain_by : (bytes : ℕ → List ℕ) → TypeTree → Option Width
@@ -59,6 +66,10 @@ abbrev mutual
   pub links_by : (bytes : ℕ → List ℕ) → (constant : Root → ℕ → Option Sized) → Op → Option Running → LinkTrees → Option Running
   links_by bytes constant op r tree.no_link = r
   links_by bytes constant op r (tree.link sign operand others) = links_by bytes constant op (run_on op r (value_by bytes constant operand)) others
+
+-- The value of an expression in an environment.
+abbrev pub value_in : Environment → ExprTree → Option Sized
+value_in env = value_by (bytes_of env.parsed.now.texts) (constant_by env)
 
 -- The number of a constant by the bounds of its type; `value` is that of an expression.
 abbrev pub low_by : (value : ExprTree → Option Sized) → PartTree → Option Sized

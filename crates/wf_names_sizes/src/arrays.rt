@@ -1,77 +1,61 @@
 // Arrays that are too long: a pass over the variables of a package.
 
-ghost use Rattle.std.specs.Prelude.{◌≡◌, ◌<◌, ◌||◌, ◌++◌, [], ◌∷◌, Some, length, map, nat_eq, nat_lt, slice_get, IfOk, OnOk};
+ghost use Rattle.std.specs.Prelude.{◌≡◌, ◌+◌, ◌<◌, ◌||◌, ◌++◌, [], ◌∷◌, Some, None, drop, length, map, nat_lt, slice_get};
 ghost use Rattle.std.specs.List.{flat_map};
-ghost use Rattle.indexmap.specs.IndexSet.{insert_all};
 ghost use Rattle.wf_text.specs.Precedence.{soonest};
 ghost use Rattle.wf_ast.specs.declared.parsed.DeclNode.{DeclNode};
 ghost use Rattle.wf_ast.specs.ParsedTree.{TypeTree};
 ghost use Rattle.wf_ast.specs.ParsedTrees.{expr_trees, expr_at, type_at, stmt_trees, stmt_at, block_at, fields_at, prefixed, decl_made, decl_trees};
 ghost use Rattle.wf_ast.specs.ParsedParts.{PrefixBelow, TypeBelow, FieldsBelow, BlockBelow};
-ghost use Rattle.wf_names_rules.specs.Declarations.{bytes_of, variables, local_of, locals_of, structs_of, methods_of};
+ghost use Rattle.wf_names_rules.specs.Declarations.{variables, local_of, locals_of, structs_of, methods_of, declared_in};
 ghost use Rattle.wf_names_rules.specs.ConstantValues.{known_constants};
 ghost use Rattle.wf_names_rules.specs.Sizes.{number_or_zero};
-ghost use Rattle.wf_names_sizes.specs.Packages.{of_package};
-ghost use Rattle.wf_names_sizes.specs.ValuesBy.{Knows, constant_by, value_by};
+ghost use Rattle.wf_names_scopes.specs.Agreeing.{TellsVariables, TellMethods};
+ghost use Rattle.wf_names_sizes.specs.Settings.{TellsSetting};
+ghost use Rattle.wf_names_sizes.specs.ValuesBy.{Knows, value_in};
 ghost use Rattle.wf_names_sizes.specs.LongArrays.{is_long_by, too_long_array_by, too_long_array as is_too_long_array, struct_longs, method_longs, arrays_found};
 
-use crate::numbers::Value;
+use crate::environment::Environment;
+use crate::setting::Setting;
 use crate::values::value;
-use indexmap::{IndexMap, IndexSet};
-use std::alloc::Global;
 use wf_ast::parsed::{Block, Decl, Field, Name, Prefix, Stmt, TypeExpr};
-use wf_ast::{ExprId, PackageNodes, StmtId};
+use wf_ast::{ExprId, StmtId};
 use wf_names_rules::lists::refused_if;
-use wf_text::faults::NoMemory;
+use wf_names_rules::tables::{MethodVariables, Variables};
 use wf_text::found::Found;
 use wf_text::rules::{Refusal, Rule};
 
 // The longest array.
 const MOST_ELEMENTS: u64 = 65_536;
 
-fn is_long(
-    parsed: &PackageNodes,
-    constants: &IndexMap<u32, Option<Value>>,
-    hidden: &IndexSet<u32>,
-    elements: ExprId,
-) -> bool
-    requires { elements.0 < length parsed.now.exprs }
-    ensures { result ≡ nat_lt 65536 (number_or_zero (value_by (bytes_of parsed.now.texts) (constant_by constants.now hidden.now) (expr_at (expr_trees parsed.now.exprs) elements))) }
+fn is_long(env: &Environment<'_>, elements: ExprId) -> bool
+    requires { elements.0 < length env.now.parsed.now.exprs }
+    ensures { result ≡ nat_lt 65536 (number_or_zero (value_in env.now (expr_at (expr_trees env.now.parsed.now.exprs) elements))) }
 {
-    match value(parsed, constants, hidden, elements) {
+    match value(env, elements) {
         Some(value) => MOST_ELEMENTS < value.number,
         None => false,
     }
 }
 
 // Whether a prefix of a type is an array that is too long.
-fn is_long_prefix(
-    parsed: &PackageNodes,
-    constants: &IndexMap<u32, Option<Value>>,
-    hidden: &IndexSet<u32>,
-    prefix: Prefix,
-) -> bool
-    requires { PrefixBelow (length parsed.now.exprs) prefix }
-    ensures { (element : TypeTree) → is_long_by (value_by (bytes_of parsed.now.texts) (constant_by constants.now hidden.now)) (prefixed (expr_trees parsed.now.exprs) prefix element) ≡ (result || is_long_by (value_by (bytes_of parsed.now.texts) (constant_by constants.now hidden.now)) element) }
+fn is_long_prefix(env: &Environment<'_>, prefix: Prefix) -> bool
+    requires { PrefixBelow (length env.now.parsed.now.exprs) prefix }
+    ensures { (element : TypeTree) → is_long_by (value_in env.now) (prefixed (expr_trees env.now.parsed.now.exprs) prefix element) ≡ (result || is_long_by (value_in env.now) element) }
 {
     match prefix {
         Prefix::Slice(_) => false,
-        Prefix::Array { length, .. } => is_long(parsed, constants, hidden, length),
+        Prefix::Array { length, .. } => is_long(env, length),
     }
 }
 
 // Whether a type has an array, nested ones too, that is too long.
-fn is_too_long(
-    parsed: &PackageNodes,
-    constants: &IndexMap<u32, Option<Value>>,
-    hidden: &IndexSet<u32>,
-    of: &TypeExpr,
-) -> bool
-    requires { TypeBelow (length parsed.now.exprs) of.now }
-    ensures { result ≡ is_long_by (value_by (bytes_of parsed.now.texts) (constant_by constants.now hidden.now)) (type_at (expr_trees parsed.now.exprs) of.now) }
+fn is_too_long(env: &Environment<'_>, of: &TypeExpr) -> bool
+    requires { TypeBelow (length env.now.parsed.now.exprs) of.now }
+    ensures { result ≡ is_long_by (value_in env.now) (type_at (expr_trees env.now.parsed.now.exprs) of.now) }
 {
     for prefix in of.prefixes.as_slice() {
-        if is_long_prefix(parsed, constants, hidden, *prefix) {
+        if is_long_prefix(env, *prefix) {
             return true;
         }
     }
@@ -79,55 +63,31 @@ fn is_too_long(
 }
 
 // A variable whose type has an array that is too long.
-fn too_long_array(
-    parsed: &PackageNodes,
-    constants: &IndexMap<u32, Option<Value>>,
-    hidden: &IndexSet<u32>,
-    name: Name,
-    of: &TypeExpr,
-) -> Option<Refusal>
-    requires { TypeBelow (length parsed.now.exprs) of.now }
-    ensures { result ≡ too_long_array_by (value_by (bytes_of parsed.now.texts) (constant_by constants.now hidden.now)) (record { name = name; of = type_at (expr_trees parsed.now.exprs) of.now }) }
+fn too_long_array(env: &Environment<'_>, name: Name, of: &TypeExpr) -> Option<Refusal>
+    requires { TypeBelow (length env.now.parsed.now.exprs) of.now }
+    ensures { result ≡ too_long_array_by (value_in env.now) (record { name = name; of = type_at (expr_trees env.now.parsed.now.exprs) of.now }) }
 {
-    refused_if(
-        is_too_long(parsed, constants, hidden, of),
-        Rule::L7,
-        name.at,
-    )
+    refused_if(is_too_long(env, of), Rule::L7, name.at)
 }
 
 // Fields or arguments with arrays that are too long.
-fn long_fields(
-    found: &mut Found,
-    parsed: &PackageNodes,
-    constants: &IndexMap<u32, Option<Value>>,
-    hidden: &IndexSet<u32>,
-    fields: &[Field],
-)
-    requires { FieldsBelow (length parsed.now.exprs) fields.now }
-    ensures { found.new ≡ soonest found.old (map (too_long_array_by (value_by (bytes_of parsed.now.texts) (constant_by constants.now hidden.now))) (variables (fields_at (expr_trees parsed.now.exprs) fields.now))) }
+fn long_fields(found: &mut Found, env: &Environment<'_>, fields: &[Field])
+    requires { FieldsBelow (length env.now.parsed.now.exprs) fields.now }
+    ensures { found.new ≡ soonest found.old (map (too_long_array_by (value_in env.now)) (variables (fields_at (expr_trees env.now.parsed.now.exprs) fields.now))) }
 {
     for field in fields {
-        found.refuse(too_long_array(parsed, constants, hidden, field.name, &field.of));
+        found.refuse(too_long_array(env, field.name, &field.of));
     }
 }
 
 // A local, if the statement declares one, with an array that is too long.
-fn long_local(
-    found: &mut Found,
-    parsed: &PackageNodes,
-    constants: &IndexMap<u32, Option<Value>>,
-    hidden: &IndexSet<u32>,
-    s: StmtId,
-)
-    requires { s.0 < length parsed.now.stmts }
-    ensures { found.new ≡ soonest found.old (map (too_long_array_by (value_by (bytes_of parsed.now.texts) (constant_by constants.now hidden.now))) (local_of (stmt_at (stmt_trees parsed.now.exprs parsed.now.stmts) s))) }
+fn long_local(found: &mut Found, env: &Environment<'_>, s: StmtId)
+    requires { s.0 < length env.now.parsed.now.stmts }
+    ensures { found.new ≡ soonest found.old (map (too_long_array_by (value_in env.now)) (local_of (stmt_at (stmt_trees env.now.parsed.now.exprs env.now.parsed.now.stmts) s))) }
 {
-    let node = parsed.stmt(s);
+    let node = env.parsed.stmt(s);
     match &node.stmt {
-        Stmt::Var { name, of } => {
-            found.refuse(too_long_array(parsed, constants, hidden, *name, of))
-        }
+        Stmt::Var { name, of } => { found.refuse(too_long_array(env, *name, of)) }
         Stmt::Assign { .. } => {}
         Stmt::Keep { .. } => {}
         Stmt::Call(_) => {}
@@ -142,79 +102,25 @@ fn long_local(
 }
 
 // Locals with arrays that are too long.
-fn long_locals(
-    found: &mut Found,
-    parsed: &PackageNodes,
-    constants: &IndexMap<u32, Option<Value>>,
-    hidden: &IndexSet<u32>,
-    body: &Block,
-)
-    requires { BlockBelow (length parsed.now.stmts) body.now }
-    ensures { found.new ≡ soonest found.old (map (too_long_array_by (value_by (bytes_of parsed.now.texts) (constant_by constants.now hidden.now))) (locals_of (block_at (stmt_trees parsed.now.exprs parsed.now.stmts) body.now))) }
+fn long_locals(found: &mut Found, env: &Environment<'_>, body: &Block)
+    requires { BlockBelow (length env.now.parsed.now.stmts) body.now }
+    ensures { found.new ≡ soonest found.old (map (too_long_array_by (value_in env.now)) (locals_of (block_at (stmt_trees env.now.parsed.now.exprs env.now.parsed.now.stmts) body.now))) }
 {
     for s in body.items.as_slice() {
-        long_local(found, parsed, constants, hidden, *s);
+        long_local(found, env, *s);
     }
 }
 
-// Adds the name of a local, if the statement declares one.
-fn add_local(hidden: &mut IndexSet<u32>, parsed: &PackageNodes, s: StmtId) -> Result<(), NoMemory>
-    requires { s.0 < length parsed.now.stmts }
-    ensures { OnOk result (hidden.new.keys ≡ insert_all nat_eq hidden.old.keys (map (λ v. v.name.text.0) (local_of (stmt_at (stmt_trees parsed.now.exprs parsed.now.stmts) s)))) }
+// Fields with arrays that are too long, of the struct that a declaration declares, if it declares one. Nothing is hidden.
+fn long_in_struct(found: &mut Found, env: &Environment<'_>, number: usize)
+    requires number { number < length env.now.parsed.now.decls }
+    requires knows { Knows env.now.constants.now (known_constants (declared_in env.now.parsed.now)) }
+    requires outside { env.now.locals ≡ None }
+    ensures { (node : DeclNode) → slice_get env.now.parsed.now.decls number ≡ Some node → found.new ≡ soonest found.old (flat_map (struct_longs (declared_in env.now.parsed.now)) (structs_of (decl_made (expr_trees env.now.parsed.now.exprs) (stmt_trees env.now.parsed.now.exprs env.now.parsed.now.stmts) node.public node.decl node.at ∷ []))) }
 {
-    let node = parsed.stmt(s);
-    match &node.stmt {
-        Stmt::Var { name, .. } => {
-            hidden.insert(name.text.0)?;
-            Ok(())
-        }
-        Stmt::Assign { .. } => Ok(()),
-        Stmt::Keep { .. } => Ok(()),
-        Stmt::Call(_) => Ok(()),
-        Stmt::If { .. } => Ok(()),
-        Stmt::While { .. } => Ok(()),
-        Stmt::Break(_) => Ok(()),
-        Stmt::Continue(_) => Ok(()),
-        Stmt::Return(_) => Ok(()),
-        Stmt::Yield(_) => Ok(()),
-        Stmt::Assert { .. } => Ok(()),
-    }
-}
-
-// The names of the locals that a body declares.
-fn local_names(
-    alloc: Global,
-    parsed: &PackageNodes,
-    body: &Block,
-) -> Result<IndexSet<u32>, NoMemory>
-    requires { BlockBelow (length parsed.now.stmts) body.now }
-    ensures { IfOk result (λ set. set.keys ≡ insert_all nat_eq [] (map (λ v. v.name.text.0) (locals_of (block_at (stmt_trees parsed.now.exprs parsed.now.stmts) body.now)))) }
-{
-    let mut hidden = IndexSet::new(alloc);
-    for s in body.items.as_slice() {
-        add_local(&mut hidden, parsed, *s)?;
-    }
-    Ok(hidden)
-}
-
-// Fields with arrays that are too long, of the struct that a declaration declares, if it declares one.
-fn long_in_struct(
-    found: &mut Found,
-    parsed: &PackageNodes,
-    constants: &IndexMap<u32, Option<Value>>,
-    nothing: &IndexSet<u32>,
-    number: usize,
-)
-    requires number { number < length parsed.now.decls }
-    requires knows { Knows constants.now (known_constants (of_package parsed.now)) }
-    requires nothing { nothing.now.keys ≡ [] }
-    ensures { (node : DeclNode) → slice_get parsed.now.decls number ≡ Some node → found.new ≡ soonest found.old (flat_map (struct_longs (of_package parsed.now)) (structs_of (decl_made (expr_trees parsed.now.exprs) (stmt_trees parsed.now.exprs parsed.now.stmts) node.public node.decl node.at ∷ []))) }
-{
-    let node = parsed.decl(number);
+    let node = env.parsed.decl(number);
     match &node.decl {
-        Decl::Struct { fields, .. } => {
-            long_fields(found, parsed, constants, nothing, fields.as_slice())
-        }
+        Decl::Struct { fields, .. } => long_fields(found, env, fields.as_slice()),
         Decl::Status(_) => {}
         Decl::Const { .. } => {}
         Decl::Method { .. } => {}
@@ -222,92 +128,89 @@ fn long_in_struct(
 }
 
 // Fields with arrays that are too long.
-fn long_in_structs(
-    found: &mut Found,
-    parsed: &PackageNodes,
-    constants: &IndexMap<u32, Option<Value>>,
-    nothing: &IndexSet<u32>,
-)
-    requires knows { Knows constants.now (known_constants (of_package parsed.now)) }
-    requires nothing { nothing.now.keys ≡ [] }
-    ensures { found.new ≡ soonest found.old (flat_map (struct_longs (of_package parsed.now)) (structs_of (decl_trees parsed.now.exprs parsed.now.stmts parsed.now.decls))) }
+fn long_in_structs(found: &mut Found, setting: &Setting<'_>)
+    requires { TellsSetting setting.now }
+    ensures { found.new ≡ soonest found.old (flat_map (struct_longs (declared_in setting.now.parsed.now)) (structs_of (decl_trees setting.now.parsed.now.exprs setting.now.parsed.now.stmts setting.now.parsed.now.decls))) }
 {
-    for number in 0..parsed.decls().len() {
-        long_in_struct(found, parsed, constants, nothing, number);
+    let env = Environment {
+        parsed: setting.parsed,
+        constants: setting.constants,
+        locals: None,
+    };
+    for number in 0..setting.parsed.decls().len() {
+        long_in_struct(found, &env, number);
     }
 }
 
-// Arguments and locals of a method with arrays that are too long.
-fn long_variables(
-    alloc: Global,
+// Arguments and locals of a method with arrays that are too long; the locals hide constants.
+fn long_variables<'a>(
     found: &mut Found,
-    parsed: &PackageNodes,
-    constants: &IndexMap<u32, Option<Value>>,
+    setting: &Setting<'a>,
+    locals: &'a Variables,
     args: &[Field],
     body: &Block,
-) -> Result<(), NoMemory>
-    requires knows { Knows constants.now (known_constants (of_package parsed.now)) }
-    requires args { FieldsBelow (length parsed.now.exprs) args.now }
-    requires body { BlockBelow (length parsed.now.stmts) body.now }
-    ensures { OnOk result (found.new ≡ soonest found.old (map (is_too_long_array (of_package parsed.now) (locals_of (block_at (stmt_trees parsed.now.exprs parsed.now.stmts) body.now))) (variables (fields_at (expr_trees parsed.now.exprs) args.now)) ++ map (is_too_long_array (of_package parsed.now) (locals_of (block_at (stmt_trees parsed.now.exprs parsed.now.stmts) body.now))) (locals_of (block_at (stmt_trees parsed.now.exprs parsed.now.stmts) body.now)))) }
+)
+    requires setting { TellsSetting setting.now }
+    requires args { FieldsBelow (length setting.now.parsed.now.exprs) args.now }
+    requires body { BlockBelow (length setting.now.parsed.now.stmts) body.now }
+    requires locals { TellsVariables setting.now.parsed.now.texts (locals_of (block_at (stmt_trees setting.now.parsed.now.exprs setting.now.parsed.now.stmts) body.now)) locals.now }
+    ensures { found.new ≡ soonest found.old (map (is_too_long_array (declared_in setting.now.parsed.now) (locals_of (block_at (stmt_trees setting.now.parsed.now.exprs setting.now.parsed.now.stmts) body.now))) (variables (fields_at (expr_trees setting.now.parsed.now.exprs) args.now)) ++ map (is_too_long_array (declared_in setting.now.parsed.now) (locals_of (block_at (stmt_trees setting.now.parsed.now.exprs setting.now.parsed.now.stmts) body.now))) (locals_of (block_at (stmt_trees setting.now.parsed.now.exprs setting.now.parsed.now.stmts) body.now))) }
 {
-    let hidden = local_names(alloc, parsed, body)?;
-    long_fields(found, parsed, constants, &hidden, args);
-    long_locals(found, parsed, constants, &hidden, body);
-    Ok(())
+    let env = Environment {
+        parsed: setting.parsed,
+        constants: setting.constants,
+        locals: Some(locals),
+    };
+    long_fields(found, &env, args);
+    long_locals(found, &env, body);
 }
 
-// The same of the method that a declaration declares, if it declares one.
-fn long_in_method(
-    alloc: Global,
+// The same of the method that a declaration declares, if it declares one. `left` are the variables of the methods from here
+// on; answers those after this declaration.
+fn long_in_method<'a>(
     found: &mut Found,
-    parsed: &PackageNodes,
-    constants: &IndexMap<u32, Option<Value>>,
+    setting: &Setting<'a>,
+    left: &'a [MethodVariables],
     number: usize,
-) -> Result<(), NoMemory>
-    requires number { number < length parsed.now.decls }
-    requires knows { Knows constants.now (known_constants (of_package parsed.now)) }
-    ensures { (node : DeclNode) → slice_get parsed.now.decls number ≡ Some node → OnOk result (found.new ≡ soonest found.old (flat_map (method_longs (of_package parsed.now)) (methods_of (decl_made (expr_trees parsed.now.exprs) (stmt_trees parsed.now.exprs parsed.now.stmts) node.public node.decl node.at ∷ [])))) }
+) -> &'a [MethodVariables]
+    requires number { number < length setting.now.parsed.now.decls }
+    requires setting { TellsSetting setting.now }
+    requires left { TellMethods setting.now.parsed.now.texts (methods_of (drop number (decl_trees setting.now.parsed.now.exprs setting.now.parsed.now.stmts setting.now.parsed.now.decls))) left.now }
+    ensures found { (node : DeclNode) → slice_get setting.now.parsed.now.decls number ≡ Some node → found.new ≡ soonest found.old (flat_map (method_longs (declared_in setting.now.parsed.now)) (methods_of (decl_made (expr_trees setting.now.parsed.now.exprs) (stmt_trees setting.now.parsed.now.exprs setting.now.parsed.now.stmts) node.public node.decl node.at ∷ []))) }
+    ensures left { TellMethods setting.now.parsed.now.texts (methods_of (drop (number + 1) (decl_trees setting.now.parsed.now.exprs setting.now.parsed.now.stmts setting.now.parsed.now.decls))) result.now }
 {
-    let node = parsed.decl(number);
+    let node = setting.parsed.decl(number);
     match &node.decl {
-        Decl::Method { args, body, .. } => {
-            long_variables(alloc, found, parsed, constants, args.as_slice(), body)
-        }
-        Decl::Status(_) => Ok(()),
-        Decl::Const { .. } => Ok(()),
-        Decl::Struct { .. } => Ok(()),
+        Decl::Method { args, body, .. } => match left.split_first() {
+            Some((variables, left)) => {
+                long_variables(found, setting, &variables.locals, args.as_slice(), body);
+                left
+            }
+            None => left,
+        },
+        Decl::Status(_) => left,
+        Decl::Const { .. } => left,
+        Decl::Struct { .. } => left,
     }
 }
 
 // Arguments and locals with arrays that are too long.
-fn long_in_methods(
-    alloc: Global,
-    found: &mut Found,
-    parsed: &PackageNodes,
-    constants: &IndexMap<u32, Option<Value>>,
-) -> Result<(), NoMemory>
-    requires { Knows constants.now (known_constants (of_package parsed.now)) }
-    ensures { OnOk result (found.new ≡ soonest found.old (flat_map (method_longs (of_package parsed.now)) (methods_of (decl_trees parsed.now.exprs parsed.now.stmts parsed.now.decls)))) }
+fn long_in_methods(found: &mut Found, setting: &Setting<'_>)
+    requires { TellsSetting setting.now }
+    ensures { found.new ≡ soonest found.old (flat_map (method_longs (declared_in setting.now.parsed.now)) (methods_of (decl_trees setting.now.parsed.now.exprs setting.now.parsed.now.stmts setting.now.parsed.now.decls))) }
 {
-    for number in 0..parsed.decls().len() {
-        long_in_method(alloc, found, parsed, constants, number)?;
+    let mut left = setting.tables.variables.as_slice();
+    for number in 0..setting.parsed.decls().len() {
+        left = long_in_method(found, setting, left, number);
     }
-    Ok(())
 }
 
 /// Variables whose types have arrays of more than 65,536 elements by the values of the constants, each refused by L7 at its
-/// name, join what was found before. `Err` where memory was refused.
-pub(crate) fn long_by_constants(
-    alloc: Global,
-    found: &mut Found,
-    parsed: &PackageNodes,
-    constants: &IndexMap<u32, Option<Value>>,
-) -> Result<(), NoMemory>
-    requires { Knows constants.now (known_constants (of_package parsed.now)) }
-    ensures { OnOk result (found.new ≡ arrays_found (of_package parsed.now) found.old) }
+/// name, join what was found before.
+pub(crate) fn long_by_constants(found: &mut Found, setting: &Setting<'_>)
+    requires { TellsSetting setting.now }
+    ensures { found.new ≡ arrays_found (declared_in setting.now.parsed.now) found.old }
 {
-    let nothing = IndexSet::new(alloc);
-    long_in_structs(found, parsed, constants, &nothing);
-    long_in_methods(alloc, found, parsed, constants)
+    long_in_structs(found, setting);
+    long_in_methods(found, setting);
 }

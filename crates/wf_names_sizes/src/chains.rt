@@ -1,10 +1,10 @@
 // Chains of operands with one operator between them.
 
 ghost use Rattle.std.specs.Prelude.{◌≡◌, Option, Some, nat_lt, if◌then◌else◌};
-ghost use Rattle.wf_names_rules.specs.ConstantValues.{Sized, Running, started as start_of, is_shift as shifts, bits_or_most, joined_bits, run_joined, run_shifted, run_on, ended as end_of, fitted as fits_in};
+ghost use Rattle.wf_names_rules.specs.ConstantValues.{Running, started as start_of, is_shift as shifts, joined_bits, run_joined, run_shifted, run_on, ended as end_of, fitted as fits_in};
 ghost use Rattle.wf_names_sizes.specs.Capped.{bits_in, sized, within, grows, Stays, ChainStays, IsRun, Runs};
 
-use crate::numbers::{Value, count, fitted, joined, joined_number, shifted_number};
+use crate::numbers::{ConstantValue, count, fitted, joined, joined_number, shifted_number};
 use wf_ast::operators::Op;
 use wf_base::widths::Width;
 
@@ -17,7 +17,7 @@ pub(crate) struct Chain {
 }
 
 /// A chain of one operand.
-pub(crate) fn started(first: Option<Value>) -> Option<Chain>
+pub(crate) fn started(first: Option<ConstantValue>) -> Option<Chain>
     ensures runs { Runs result (start_of (sized first)) }
     ensures stays { (op : _) → ChainStays op result }
 {
@@ -46,7 +46,7 @@ fn larger(a: u64, b: u64) -> u64
     if a < b { b } else { a }
 }
 
-fn join(op: Op, chain: Chain, b: Value) -> Option<Chain>
+fn join(op: Op, chain: Chain, b: ConstantValue) -> Option<Chain>
     requires { Stays (grows op) (Some chain.number) }
     ensures runs { (r : Running) → IsRun chain r → Runs result (run_joined op r (record { bits = bits_in b.width; number = b.number }) (joined_bits r.bits (bits_in b.width))) }
     ensures stays { ChainStays op result }
@@ -60,7 +60,7 @@ fn join(op: Op, chain: Chain, b: Value) -> Option<Chain>
     })
 }
 
-fn shift(op: Op, chain: Chain, b: Value) -> Option<Chain>
+fn shift(op: Op, chain: Chain, b: ConstantValue) -> Option<Chain>
     requires { Stays (grows op) (Some chain.number) }
     ensures runs { (r : Running) → IsRun chain r → Runs result (run_shifted op r (record { bits = bits_in b.width; number = b.number })) }
     ensures stays { ChainStays op result }
@@ -73,7 +73,7 @@ fn shift(op: Op, chain: Chain, b: Value) -> Option<Chain>
     })
 }
 
-fn joined_or_shifted(op: Op, chain: Chain, b: Value) -> Option<Chain>
+fn joined_or_shifted(op: Op, chain: Chain, b: ConstantValue) -> Option<Chain>
     requires { Stays (grows op) (Some chain.number) }
     ensures runs { (r : Running) → IsRun chain r → Runs result (run_on op (Some r) (sized (Some b))) }
     ensures stays { ChainStays op result }
@@ -86,7 +86,7 @@ fn joined_or_shifted(op: Op, chain: Chain, b: Value) -> Option<Chain>
 }
 
 /// A chain with one operand more.
-pub(crate) fn run(op: Op, so_far: Option<Chain>, operand: Option<Value>) -> Option<Chain>
+pub(crate) fn run(op: Op, so_far: Option<Chain>, operand: Option<ConstantValue>) -> Option<Chain>
     requires { ChainStays op so_far }
     ensures runs { (r : Option Running) → Runs so_far r → Runs result (run_on op r (sized operand)) }
     ensures stays { ChainStays op result }
@@ -98,7 +98,7 @@ pub(crate) fn run(op: Op, so_far: Option<Chain>, operand: Option<Value>) -> Opti
     }
 }
 
-fn ended_at(width: Option<Width>, number: Option<u64>) -> Option<Value>
+fn ended_at(width: Option<Width>, number: Option<u64>) -> Option<ConstantValue>
     ensures { (n : _) → number ≡ within n → sized result ≡ fits_in (bits_in width) n }
 {
     let number = number?;
@@ -106,7 +106,7 @@ fn ended_at(width: Option<Width>, number: Option<u64>) -> Option<Value>
 }
 
 /// The value of a whole chain.
-pub(crate) fn ended(chain: Option<Chain>) -> Option<Value>
+pub(crate) fn ended(chain: Option<Chain>) -> Option<ConstantValue>
     ensures { (r : Option Running) → Runs chain r → sized result ≡ end_of r }
 {
     let chain = chain?;

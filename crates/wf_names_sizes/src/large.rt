@@ -1,31 +1,27 @@
 // Structs whose fields take too many bytes.
 
-ghost use Rattle.std.specs.Prelude.{◌≡◌, ◌<◌, ◌∷◌, [], Some, length, map, slice_get, IfOk, OnOk};
+ghost use Rattle.std.specs.Prelude.{◌≡◌, Some, map, OnOk};
 ghost use Rattle.std.specs.List.{flat_map};
 ghost use Rattle.wf_text.specs.Precedence.{soonest};
-ghost use Rattle.wf_ast.specs.declared.parsed.DeclNode.{DeclNode};
-ghost use Rattle.wf_ast.specs.ParsedTrees.{expr_trees, stmt_trees, fields_at, decl_made, decl_trees};
-ghost use Rattle.wf_ast.specs.ParsedParts.{FieldsBelow};
-ghost use Rattle.wf_names_rules.specs.Declarations.{declared, variables, structs_of};
+ghost use Rattle.wf_names_rules.specs.Declarations.{Declared, declared_in};
 ghost use Rattle.wf_names_rules.specs.NameRules.{SizeBreaks};
+ghost use Rattle.wf_names_scopes.specs.Agreeing.{TellsPackage};
 ghost use Rattle.wf_names_sizes.specs.Deciding.{DecidesBehind};
-ghost use Rattle.wf_names_sizes.specs.Orders.{IsHoldingOrder};
-ghost use Rattle.wf_names_sizes.specs.Packages.{of_package};
-ghost use Rattle.wf_names_sizes.specs.Settings.{TellsSetting};
-ghost use Rattle.wf_names_sizes.specs.StructSizes.{passes as passes_limit, too_large_struct as are_too_large, struct_large, row_of, AreHolding, AreNumbers, AreSizes, AreSettled, HasLargeField};
+ghost use Rattle.wf_names_sizes.specs.Orders.{IsHoldingOrder, IsSettlingOrder};
+ghost use Rattle.wf_names_sizes.specs.Settings.{TellsSizes};
+ghost use Rattle.wf_names_sizes.specs.StructSizes.{passes as passes_limit, too_large_struct as are_too_large, row_of, AreHolding, HasLargeField};
 
 use crate::arrays::long_by_constants;
-use crate::constants::constants;
-use crate::parts::field_part;
+use crate::parts::FieldPart;
 use crate::setting::Setting;
 use crate::struct_sizes::{added, part_bytes, sizes};
-use crate::tables::rows;
-use indexmap::IndexSet;
+use crate::tables::SizeTables;
+use graphs::cycles::Cycles;
 use std::alloc::Global;
 use wf_ast::PackageNodes;
-use wf_ast::parsed::{Decl, Field};
+use wf_ast::sequences::Sequence;
 use wf_names_rules::lists::refused_if;
-use wf_names_rules::tables::Numbers;
+use wf_names_rules::tables::Tables;
 use wf_text::faults::NoMemory;
 use wf_text::found::Found;
 use wf_text::rules::Rule;
@@ -44,119 +40,78 @@ fn passes(before: Option<u32>, since: Option<u32>) -> bool
 }
 
 // The field that passes the limit.
-fn too_large_struct(
-    found: &mut Found,
-    setting: &Setting<'_>,
-    flags: &[bool],
-    sizes: &[Option<u32>],
-    fields: &[Field],
-)
-    requires fields { FieldsBelow (length setting.now.parsed.now.exprs) fields.now }
-    requires setting { TellsSetting setting.now }
-    ensures { found.new ≡ soonest found.old (are_too_large (of_package setting.now.parsed.now) flags.now sizes.now (Some 0) (variables (fields_at (expr_trees setting.now.parsed.now.exprs) fields.now))) }
+fn too_large_struct(found: &mut Found, fields: &[FieldPart], flags: &[bool], sizes: &[Option<u32>])
+    ensures { found.new ≡ soonest found.old (are_too_large flags.now sizes.now (Some 0) fields.now) }
 {
     let mut sum = Some(0);
     for field in fields {
-        let part = field_part(setting, &field.of);
-        let next = added(sum, part_bytes(part, flags, sizes));
+        let next = added(sum, part_bytes(field.part, flags, sizes));
         found.refuse(refused_if(passes(sum, next), Rule::L7, field.name.at));
         sum = next;
     }
 }
 
-// The same in the struct that a declaration declares, if it declares one.
-fn large_in_struct(
+// The same in each struct.
+fn too_large_structs(
     found: &mut Found,
-    setting: &Setting<'_>,
+    structs: &[Sequence<FieldPart>],
     flags: &[bool],
     sizes: &[Option<u32>],
-    number: usize,
 )
-    requires number { number < length setting.now.parsed.now.decls }
-    requires setting { TellsSetting setting.now }
-    ensures { (node : DeclNode) → slice_get setting.now.parsed.now.decls number ≡ Some node → found.new ≡ soonest found.old (flat_map (struct_large (of_package setting.now.parsed.now) flags.now sizes.now) (structs_of (decl_made (expr_trees setting.now.parsed.now.exprs) (stmt_trees setting.now.parsed.now.exprs setting.now.parsed.now.stmts) node.public node.decl node.at ∷ []))) }
+    ensures { found.new ≡ soonest found.old (flat_map (are_too_large flags.now sizes.now (Some 0)) structs.now) }
 {
-    let node = setting.parsed.decl(number);
-    match &node.decl {
-        Decl::Struct { fields, .. } => {
-            too_large_struct(found, setting, flags, sizes, fields.as_slice())
-        }
-        Decl::Status(_) => {}
-        Decl::Const { .. } => {}
-        Decl::Method { .. } => {}
+    for fields in structs {
+        too_large_struct(found, fields.as_slice(), flags, sizes);
     }
 }
 
-fn large_in_structs(found: &mut Found, setting: &Setting<'_>, flags: &[bool], sizes: &[Option<u32>])
-    requires setting { TellsSetting setting.now }
-    ensures { found.new ≡ soonest found.old (flat_map (struct_large (of_package setting.now.parsed.now) flags.now sizes.now) (structs_of (decl_trees setting.now.parsed.now.exprs setting.now.parsed.now.stmts setting.now.parsed.now.decls))) }
-{
-    for number in 0..setting.parsed.decls().len() {
-        large_in_struct(found, setting, flags, sizes, number);
-    }
-}
-
-// The sizes of all structs.
-fn known_sizes(
-    alloc: Global,
-    setting: &Setting<'_>,
-    flags: &[bool],
-    order: &[u32],
-) -> Result<Vec<Option<u32>>, NoMemory>
-    requires setting { TellsSetting setting.now }
-    requires holding { AreHolding (of_package setting.now.parsed.now) flags.now }
-    requires order { IsHoldingOrder (of_package setting.now.parsed.now) order.now }
-    ensures settled { IfOk result (λ sizes. AreSettled flags.now sizes.items (map (row_of (of_package setting.now.parsed.now)) (of_package setting.now.parsed.now).structs)) }
-    ensures sound { IfOk result (λ sizes. AreSizes (of_package setting.now.parsed.now) sizes.items) }
-{
-    let rows = rows(alloc, setting)?;
-    sizes(alloc, rows.as_slice(), flags, order)
-}
-
-/// Structs whose fields take more than 1,048,576 bytes together, each refused by L7 at the field that passes this
-/// limit, join what was found before. A flag tells of each struct whether it holds itself;
-/// `order` has the numbers of all structs, each after those that it holds, but for those that hold themselves.
-pub(crate) fn large_structs(
+// Structs whose fields take more than 1,048,576 bytes together, each refused by L7 at the field that passes this limit, join
+// what was found before. A flag tells of each struct whether it holds itself; `order` has the numbers of all structs, each
+// after those that it holds, but for those that hold themselves.
+fn large_structs(
     alloc: Global,
     found: &mut Found,
-    setting: &Setting<'_>,
+    structs: &[Sequence<FieldPart>],
     flags: &[bool],
     order: &[u32],
 ) -> Result<(), NoMemory>
-    requires setting { TellsSetting setting.now }
-    requires holding { AreHolding (of_package setting.now.parsed.now) flags.now }
-    requires order { IsHoldingOrder (of_package setting.now.parsed.now) order.now }
-    ensures { OnOk result (DecidesBehind (HasLargeField (of_package setting.now.parsed.now)) found.old found.new) }
+    requires { IsSettlingOrder flags.now structs.now order.now }
+    ensures { OnOk result ((d : Declared) → structs.now ≡ map (row_of d) d.structs → AreHolding d flags.now → DecidesBehind (HasLargeField d) found.old found.new) }
 {
-    let sizes = known_sizes(alloc, setting, flags, order)?;
-    large_in_structs(found, setting, flags, sizes.as_slice());
+    let sizes = sizes(alloc, structs, flags, order)?;
+    too_large_structs(found, structs, flags, sizes.as_slice());
     Ok(())
 }
 
-/// Arrays that are too long and structs that are too large join what was found before.
-/// A flag tells of each struct whether it holds itself; `order` has the numbers of all structs, each after those that
-/// it holds, but for those that hold themselves. `Err` where memory was refused.
+/// Arrays that are too long and structs that are too large join what was found before. `sizes` is made of the package by its
+/// tables; of its structs `cycles` tells which hold themselves, and has an order in which each stands after those that it
+/// holds, but for those that hold themselves. `Err` where memory was refused. The time is that of a walk over the types of all
+/// variables.
 pub fn size_breaks(
     alloc: Global,
     found: &mut Found,
     parsed: &PackageNodes,
-    structs: &Numbers,
-    flags: &[bool],
-    order: &[u32],
+    tables: &Tables,
+    sizes: &SizeTables,
+    cycles: &Cycles,
 ) -> Result<(), NoMemory>
-    requires structs { AreNumbers structs.now (of_package parsed.now).structs }
-    requires holding { AreHolding (of_package parsed.now) flags.now }
-    requires order { IsHoldingOrder (of_package parsed.now) order.now }
-    ensures { OnOk result (DecidesBehind (SizeBreaks (declared parsed.now.texts (decl_trees parsed.now.exprs parsed.now.stmts parsed.now.decls))) found.old found.new) }
+    requires tables { TellsPackage (declared_in parsed.now) tables.now }
+    requires sizes { TellsSizes (declared_in parsed.now) sizes.now }
+    requires holding { AreHolding (declared_in parsed.now) cycles.now.flags.items }
+    requires order { IsHoldingOrder (declared_in parsed.now) cycles.now.order.items }
+    ensures { OnOk result (DecidesBehind (SizeBreaks (declared_in parsed.now)) found.old found.new) }
 {
-    let constants = constants(alloc, parsed)?;
-    long_by_constants(alloc, found, parsed, &constants)?;
-    let nothing = IndexSet::new(alloc);
     let setting = Setting {
         parsed,
-        constants: &constants,
-        nothing: &nothing,
-        structs,
+        tables,
+        constants: &sizes.constants,
     };
-    large_structs(alloc, found, &setting, flags, order)
+    long_by_constants(found, &setting);
+    large_structs(
+        alloc,
+        found,
+        sizes.structs.as_slice(),
+        cycles.flags.as_slice(),
+        cycles.order.as_slice(),
+    )
 }

@@ -12,7 +12,7 @@ ghost use Rattle.wf_names_sizes.specs.LongArrays.{HasLongArray, arrays_found};
 ghost use Rattle.wf_names_sizes.specs.Orders.{IsHoldingOrder};
 ghost use Rattle.wf_names_sizes.specs.StructSizes.{AreHolding};
 
-/// Arrays that are too long: each breaks a rule of the table, and of what the pass finds the first decides.
+/// Arrays that are too long: each breaks a rule of the table, and what the pass finds is the first refusal.
 pub fn first_long_array_decides()
     ensures breaks { (d : Declared) (s : Refusal) → HasLongArray d s → SizeBreaks d s }
     ensures decides { (d : Declared) → Decides (HasLongArray d) (arrays_found d None) }

@@ -4,6 +4,8 @@
 pub mod arrays;
 pub mod chains;
 pub mod constants;
+pub mod environment;
+pub mod holding;
 pub mod large;
 pub mod laws;
 pub mod numbers;

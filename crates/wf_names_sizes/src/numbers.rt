@@ -9,7 +9,7 @@ use wf_base::widths::Width;
 
 /// A number with its width. A literal has none until it stands beside one.
 #[derive(Clone, Copy, PartialEq, Eq)]
-pub struct Value {
+pub struct ConstantValue {
     pub width: Option<Width>,
     pub number: u64,
 }
@@ -40,11 +40,11 @@ pub(crate) fn count(width: Option<Width>) -> u128
 }
 
 /// The number as a value of a width, where it lies in it.
-pub(crate) fn fitted(width: Option<Width>, number: u64) -> Option<Value>
+pub(crate) fn fitted(width: Option<Width>, number: u64) -> Option<ConstantValue>
     ensures { sized result ≡ fits_in (bits_in width) number }
 {
     if (number as u128) < count(width) {
-        Some(Value { width, number })
+        Some(ConstantValue { width, number })
     } else {
         None
     }

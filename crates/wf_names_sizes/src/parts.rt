@@ -3,19 +3,20 @@
 ghost use Rattle.std.specs.Prelude.{◌≡◌, ◌*◌, ◌<◌, ◌≤◌, length, min, map, IfOk, false, codes, bytes_eq};
 ghost use Rattle.wf_ast.specs.ParsedTrees.{expr_trees, expr_at, type_at, core_at, fields_at};
 ghost use Rattle.wf_ast.specs.ParsedParts.{TypeBelow, FieldsBelow};
-ghost use Rattle.wf_names_rules.specs.Declarations.{variables};
+ghost use Rattle.wf_names_rules.specs.Declarations.{variables, declared_in};
 ghost use Rattle.wf_names_rules.specs.Meanings.{width_named as width_by_name};
 ghost use Rattle.wf_names_rules.specs.ConstantValues.{known_constants, value_of};
 ghost use Rattle.wf_names_rules.specs.Tables.{number_at};
 ghost use Rattle.wf_names_rules.specs.Sizes.{number_or_zero, width_bytes as bytes_of_width, flag_bytes, plain_bytes as bytes_of_type, struct_held as held_by_type};
-ghost use Rattle.wf_names_sizes.specs.Packages.{of_package};
+ghost use Rattle.wf_names_scopes.specs.Agreeing.{TellsNumbers};
 ghost use Rattle.wf_names_sizes.specs.Settings.{TellsSetting};
-ghost use Rattle.wf_names_sizes.specs.StructSizes.{capped, part_with, part_of, AreNumbers};
+ghost use Rattle.wf_names_sizes.specs.StructSizes.{capped, part_with, field_of};
 
+use crate::environment::Environment;
 use crate::setting::Setting;
 use crate::values::value;
 use std::alloc::Global;
-use wf_ast::parsed::{Core, Field, Prefix, TypeExpr};
+use wf_ast::parsed::{Core, Field, Name, Prefix, TypeExpr};
 use wf_ast::sequences::Sequence;
 use wf_ast::{ExprId, PackageNodes, TextId};
 use wf_base::widths::Width;
@@ -23,11 +24,18 @@ use wf_names_rules::tables::{Numbers, text_bytes};
 use wf_names_rules::types::{width, width_named};
 use wf_text::faults::NoMemory;
 
-/// A field: its bytes, of which numbers above 1,048,577 count as that, or the number of the struct that it holds.
-#[derive(Clone, Copy, PartialEq, Eq)]
+/// What a field takes: its bytes, of which numbers above 1,048,577 count as that, or the number of the struct that it holds.
+#[derive(Clone, Copy)]
 pub enum Part {
     Plain(u32),
     Struct(usize),
+}
+
+/// A field of a struct: its name, and what it takes.
+#[derive(Clone, Copy)]
+pub struct FieldPart {
+    pub name: Name,
+    pub part: Part,
 }
 
 /// What numbers of bytes above it count as.
@@ -61,7 +69,7 @@ fn named_bytes(name: &[u8]) -> u64
 
 // The bytes of a field that isn't an array.
 fn core_bytes(parsed: &PackageNodes, core: Core) -> u64
-    ensures bytes { (es : _) (bounds : _) → result ≡ bytes_of_type (of_package parsed.now) (core_at es core bounds) }
+    ensures bytes { (es : _) (bounds : _) → result ≡ bytes_of_type (declared_in parsed.now) (core_at es core bounds) }
     ensures most { result ≤ 8 }
 {
     match core {
@@ -81,9 +89,14 @@ fn product(count: u64, bytes: u64) -> u32
 fn count(setting: &Setting<'_>, elements: ExprId) -> u64
     requires elements { elements.0 < length setting.now.parsed.now.exprs }
     requires setting { TellsSetting setting.now }
-    ensures { result ≡ number_or_zero (value_of (of_package setting.now.parsed.now) (λ text. false) (known_constants (of_package setting.now.parsed.now)) (expr_at (expr_trees setting.now.parsed.now.exprs) elements)) }
+    ensures { result ≡ number_or_zero (value_of (declared_in setting.now.parsed.now) (λ text. false) (known_constants (declared_in setting.now.parsed.now)) (expr_at (expr_trees setting.now.parsed.now.exprs) elements)) }
 {
-    match value(setting.parsed, setting.constants, setting.nothing, elements) {
+    let env = Environment {
+        parsed: setting.parsed,
+        constants: setting.constants,
+        locals: None,
+    };
+    match value(&env, elements) {
         Some(value) => value.number,
         None => 0,
     }
@@ -93,7 +106,7 @@ fn count(setting: &Setting<'_>, elements: ExprId) -> u64
 fn plain_bytes(setting: &Setting<'_>, of: &TypeExpr) -> u32
     requires of { TypeBelow (length setting.now.parsed.now.exprs) of.now }
     requires setting { TellsSetting setting.now }
-    ensures { result ≡ capped (bytes_of_type (of_package setting.now.parsed.now) (type_at (expr_trees setting.now.parsed.now.exprs) of.now)) }
+    ensures { result ≡ capped (bytes_of_type (declared_in setting.now.parsed.now) (type_at (expr_trees setting.now.parsed.now.exprs) of.now)) }
 {
     match of.prefixes.as_slice() {
         [] => core_bytes(setting.parsed, of.core) as u32,
@@ -115,8 +128,8 @@ fn number(structs: &Numbers, name: TextId) -> Option<usize>
 
 // The struct that a field holds.
 fn struct_held(parsed: &PackageNodes, structs: &Numbers, of: &TypeExpr) -> Option<usize>
-    requires { AreNumbers structs.now (of_package parsed.now).structs }
-    ensures { (es : _) → result ≡ held_by_type (of_package parsed.now) (type_at es of.now) }
+    requires { TellsNumbers 0 (λ s. s.name) (declared_in parsed.now).structs structs.now }
+    ensures { (es : _) → result ≡ held_by_type (declared_in parsed.now) (type_at es of.now) }
 {
     match of.prefixes.as_slice() {
         [] => core_held(parsed, structs, of.core),
@@ -125,8 +138,8 @@ fn struct_held(parsed: &PackageNodes, structs: &Numbers, of: &TypeExpr) -> Optio
 }
 
 fn core_held(parsed: &PackageNodes, structs: &Numbers, core: Core) -> Option<usize>
-    requires { AreNumbers structs.now (of_package parsed.now).structs }
-    ensures { (es : _) (bounds : _) → result ≡ held_by_type (of_package parsed.now) (core_at es core bounds) }
+    requires { TellsNumbers 0 (λ s. s.name) (declared_in parsed.now).structs structs.now }
+    ensures { (es : _) (bounds : _) → result ≡ held_by_type (declared_in parsed.now) (core_at es core bounds) }
 {
     match core {
         Core::Struct(name) => number(structs, name.text),
@@ -135,13 +148,13 @@ fn core_held(parsed: &PackageNodes, structs: &Numbers, core: Core) -> Option<usi
     }
 }
 
-/// A field by its bytes, or by the struct that it holds.
-pub(crate) fn field_part(setting: &Setting<'_>, of: &TypeExpr) -> Part
+// What a field of this type takes.
+fn field_part(setting: &Setting<'_>, of: &TypeExpr) -> Part
     requires of { TypeBelow (length setting.now.parsed.now.exprs) of.now }
     requires setting { TellsSetting setting.now }
-    ensures { result ≡ part_with (bytes_of_type (of_package setting.now.parsed.now) (type_at (expr_trees setting.now.parsed.now.exprs) of.now)) (held_by_type (of_package setting.now.parsed.now) (type_at (expr_trees setting.now.parsed.now.exprs) of.now)) }
+    ensures { result ≡ part_with (bytes_of_type (declared_in setting.now.parsed.now) (type_at (expr_trees setting.now.parsed.now.exprs) of.now)) (held_by_type (declared_in setting.now.parsed.now) (type_at (expr_trees setting.now.parsed.now.exprs) of.now)) }
 {
-    match struct_held(setting.parsed, setting.structs, of) {
+    match struct_held(setting.parsed, &setting.tables.structs, of) {
         Some(s) => Part::Struct(s),
         None => Part::Plain(plain_bytes(setting, of)),
     }
@@ -152,15 +165,17 @@ pub(crate) fn row(
     alloc: Global,
     setting: &Setting<'_>,
     fields: &[Field],
-) -> Result<Sequence<Part>, NoMemory>
+) -> Result<Sequence<FieldPart>, NoMemory>
     requires fields { FieldsBelow (length setting.now.parsed.now.exprs) fields.now }
     requires setting { TellsSetting setting.now }
-    ensures { IfOk result (λ row. row ≡ map (part_of (of_package setting.now.parsed.now)) (variables (fields_at (expr_trees setting.now.parsed.now.exprs) fields.now))) }
+    ensures { IfOk result (λ row. row ≡ map (field_of (declared_in setting.now.parsed.now)) (variables (fields_at (expr_trees setting.now.parsed.now.exprs) fields.now))) }
 {
     let mut row = Sequence::new(alloc);
     for field in fields {
-        let part = field_part(setting, &field.of);
-        row.push(part)?;
+        row.push(FieldPart {
+            name: field.name,
+            part: field_part(setting, &field.of),
+        })?;
     }
     Ok(row)
 }

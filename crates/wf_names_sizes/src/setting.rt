@@ -1,16 +1,14 @@
-// What stays the same along a walk over the fields of structs.
+// What stays the same along a walk over the declarations of a package.
 
-use crate::numbers::Value;
-use indexmap::{IndexMap, IndexSet};
+use crate::numbers::ConstantValue;
+use indexmap::IndexMap;
 use wf_ast::PackageNodes;
-use wf_names_rules::tables::Numbers;
+use wf_names_rules::tables::Tables;
 
-/// A package, the values of its constants, which nothing hides, and the numbers of its structs.
+/// A package, its tables, and the values of its constants.
 #[derive(Clone, Copy)]
-pub struct Setting<'a> {
+pub(crate) struct Setting<'a> {
     pub parsed: &'a PackageNodes,
-    pub constants: &'a IndexMap<u32, Option<Value>>,
-    /// The names that hide constants: none.
-    pub nothing: &'a IndexSet<u32>,
-    pub structs: &'a Numbers,
+    pub tables: &'a Tables,
+    pub constants: &'a IndexMap<u32, Option<ConstantValue>>,
 }

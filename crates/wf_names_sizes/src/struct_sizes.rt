@@ -8,7 +8,7 @@ ghost use Rattle.wf_names_rules.specs.Passes.{is_flagged as flags_at};
 ghost use Rattle.wf_names_sizes.specs.Orders.{IsSettlingOrder};
 ghost use Rattle.wf_names_sizes.specs.StructSizes.{capped, row_of, added as sum_of_both, struct_bytes as bytes_of_struct, size_in, part_bytes as bytes_of_part, sum_after, AreHolding, AreSizes, AreSettled};
 
-use crate::parts::{MOST_BYTES, Part};
+use crate::parts::{FieldPart, MOST_BYTES, Part};
 use std::alloc::Global;
 use wf_ast::sequences::Sequence;
 use wf_text::faults::NoMemory;
@@ -66,18 +66,18 @@ pub(crate) fn part_bytes(part: Part, flags: &[bool], sizes: &[Option<u32>]) -> O
     }
 }
 
-fn sum(row: &[Part], flags: &[bool], sizes: &[Option<u32>]) -> Option<u32>
+fn sum(row: &[FieldPart], flags: &[bool], sizes: &[Option<u32>]) -> Option<u32>
     ensures { result ≡ sum_after flags.now sizes.now (Some 0) row.now }
 {
     let mut sum = Some(0);
-    for part in row {
-        sum = added(sum, part_bytes(*part, flags, sizes));
+    for field in row {
+        sum = added(sum, part_bytes(field.part, flags, sizes));
     }
     sum
 }
 
 // Keeps the size of a struct, where those of all that it holds are known.
-fn settle(sizes: &mut Vec<Option<u32>>, row: &[Part], flags: &[bool], s: usize)
+fn settle(sizes: &mut Vec<Option<u32>>, row: &[FieldPart], flags: &[bool], s: usize)
     requires { s < vec_len sizes.old }
     ensures { sizes.new.items ≡ slice_set sizes.old.items s (sum_after flags.now sizes.old.items (Some 0) row.now) }
 {
@@ -85,7 +85,7 @@ fn settle(sizes: &mut Vec<Option<u32>>, row: &[Part], flags: &[bool], s: usize)
     sizes[s] = sum;
 }
 
-fn row(rows: &[Sequence<Part>], s: usize) -> &[Part]
+fn row(rows: &[Sequence<FieldPart>], s: usize) -> &[FieldPart]
     requires { s < length rows.now }
     ensures { slice_get rows.now s ≡ Some result.now }
 {
@@ -103,9 +103,9 @@ fn no_sizes(alloc: Global, count: usize) -> Result<Vec<Option<u32>>, NoMemory>
 /// The size of each struct's fields, of which numbers above 1,048,577 count as that. It is known wherever the fields
 /// have one. A struct that is flagged counts 8 bytes in those that hold it; each other stands in `order` before
 /// those that hold it. `Err` where memory was refused.
-pub fn sizes(
+pub(crate) fn sizes(
     alloc: Global,
-    rows: &[Sequence<Part>],
+    rows: &[Sequence<FieldPart>],
     flags: &[bool],
     order: &[u32],
 ) -> Result<Vec<Option<u32>>, NoMemory>

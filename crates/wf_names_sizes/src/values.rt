@@ -1,21 +1,23 @@
 // The values of constant expressions.
 
 ghost use Rattle.std.specs.Prelude.{◌≡◌, ◌<◌, length};
+ghost use Rattle.wf_ast.specs.declared.parsed.Root.TheVariants.{Bare};
 ghost use Rattle.wf_ast.specs.ParsedTrees.{expr_trees, expr_at, links_at, type_at};
 ghost use Rattle.wf_ast.specs.ParsedParts.{LinksBelow};
 ghost use Rattle.wf_names_rules.specs.Declarations.{bytes_of};
 ghost use Rattle.wf_names_rules.specs.Meanings.{width_of};
 ghost use Rattle.wf_names_rules.specs.ConstantValues.{started as start_of, converted as converts, ended as end_of};
 ghost use Rattle.wf_names_sizes.specs.Capped.{sized};
-ghost use Rattle.wf_names_sizes.specs.ValuesBy.{constant_by, plain_by, value_by, links_by};
+ghost use Rattle.wf_names_sizes.specs.ValuesBy.{hides, constant_by, plain_by, value_in, links_by};
 
 use crate::chains::{ended, run, started};
-use crate::numbers::{Value, fitted};
-use indexmap::{IndexMap, IndexSet};
+use crate::environment::Environment;
+use crate::numbers::{ConstantValue, fitted};
 use wf_ast::operators::Op;
 use wf_ast::parsed::{Expr, Link, Path, Root, TypeExpr};
-use wf_ast::{ExprId, PackageNodes};
+use wf_ast::{ExprId, PackageNodes, TextId};
 use wf_base::widths::Width;
+use wf_names_rules::tables::Variables;
 use wf_names_rules::types::width;
 
 /// The width of a type that is numeric, refined or not.
@@ -38,31 +40,39 @@ fn plain_width(parsed: &PackageNodes, of: &TypeExpr) -> Option<Width>
     }
 }
 
-// The value of a name, which a local hides.
-fn constant(
-    constants: &IndexMap<u32, Option<Value>>,
-    hidden: &IndexSet<u32>,
-    path: Path,
-) -> Option<Value>
-    ensures { sized result ≡ constant_by constants.now hidden.now path.root path.name.text.0 }
+// Whether a local hides a name.
+fn is_hidden(locals: Option<&Variables>, name: TextId) -> bool
+    ensures { result ≡ hides locals.entry name.0 }
+{
+    match locals {
+        Some(locals) => locals.entries.contains_key(&name.0),
+        None => false,
+    }
+}
+
+// The value of a constant, where no local hides it.
+fn constant(env: &Environment<'_>, name: TextId) -> Option<ConstantValue>
+    ensures { sized result ≡ constant_by env.now Bare name.0 }
+{
+    if is_hidden(env.locals, name) {
+        return None;
+    }
+    let value = env.constants.get(&name.0)?;
+    *value
+}
+
+// The value of a path.
+fn path_value(env: &Environment<'_>, path: Path) -> Option<ConstantValue>
+    ensures { sized result ≡ constant_by env.now path.root path.name.text.0 }
 {
     match path.root {
-        Root::Bare => {
-            if hidden.contains(&path.name.text.0) {
-                None
-            } else {
-                match constants.get(&path.name.text.0) {
-                    Some(value) => *value,
-                    None => None,
-                }
-            }
-        }
+        Root::Bare => constant(env, path.name.text),
         Root::This => None,
         Root::Args => None,
     }
 }
 
-fn converted(width: Option<Width>, of: Option<Value>) -> Option<Value>
+fn converted(width: Option<Width>, of: Option<ConstantValue>) -> Option<ConstantValue>
     ensures { sized result ≡ converts width (sized of) }
 {
     match (width, of) {
@@ -72,30 +82,21 @@ fn converted(width: Option<Width>, of: Option<Value>) -> Option<Value>
     }
 }
 
-/// The value of an expression by the values of the constants, of which the names in `hidden` are hidden by locals.
-/// None where it isn't constant, or breaks a rule of values.
+/// The value of an expression in an environment. None where it isn't constant, or breaks a rule of values.
 #[cycle(values)]
-pub(crate) fn value(
-    parsed: &PackageNodes,
-    constants: &IndexMap<u32, Option<Value>>,
-    hidden: &IndexSet<u32>,
-    e: ExprId,
-) -> Option<Value>
-    requires { e.0 < length parsed.now.exprs }
-    ensures { sized result ≡ value_by (bytes_of parsed.now.texts) (constant_by constants.now hidden.now) (expr_at (expr_trees parsed.now.exprs) e) }
+pub(crate) fn value(env: &Environment<'_>, e: ExprId) -> Option<ConstantValue>
+    requires { e.0 < length env.now.parsed.now.exprs }
+    ensures { sized result ≡ value_in env.now (expr_at (expr_trees env.now.parsed.now.exprs) e) }
 {
-    let node = parsed.expr(e);
+    let node = env.parsed.expr(e);
     match &node.expr {
         Expr::Number(number) => fitted(None, *number),
-        Expr::Path(path) => constant(constants, hidden, *path),
+        Expr::Path(path) => path_value(env, *path),
         Expr::Chain { op, first, links } => {
-            let first = value(parsed, constants, hidden, *first);
-            chain_value(parsed, constants, hidden, *op, first, links.as_slice())
+            let first = value(env, *first);
+            chain_value(env, *op, first, links.as_slice())
         }
-        Expr::Convert { of, to } => converted(
-            plain_width(parsed, to),
-            value(parsed, constants, hidden, *of),
-        ),
+        Expr::Convert { of, to } => converted(plain_width(env.parsed, to), value(env, *of)),
         Expr::OwnStatus(_) => None,
         Expr::BaseStatus(_) => None,
         Expr::Fine => None,
@@ -110,19 +111,17 @@ pub(crate) fn value(
 // The value of a chain whose first operand has this one.
 #[cycle(values)]
 fn chain_value(
-    parsed: &PackageNodes,
-    constants: &IndexMap<u32, Option<Value>>,
-    hidden: &IndexSet<u32>,
+    env: &Environment<'_>,
     op: Op,
-    first: Option<Value>,
+    first: Option<ConstantValue>,
     links: &[Link],
-) -> Option<Value>
-    requires { LinksBelow (length parsed.now.exprs) links.now }
-    ensures { sized result ≡ end_of (links_by (bytes_of parsed.now.texts) (constant_by constants.now hidden.now) op (start_of (sized first)) (links_at (expr_trees parsed.now.exprs) links.now)) }
+) -> Option<ConstantValue>
+    requires { LinksBelow (length env.now.parsed.now.exprs) links.now }
+    ensures { sized result ≡ end_of (links_by (bytes_of env.now.parsed.now.texts) (constant_by env.now) op (start_of (sized first)) (links_at (expr_trees env.now.parsed.now.exprs) links.now)) }
 {
     let mut chain = started(first);
     for link in links {
-        chain = run(op, chain, value(parsed, constants, hidden, link.operand));
+        chain = run(op, chain, value(env, link.operand));
     }
     ended(chain)
 }

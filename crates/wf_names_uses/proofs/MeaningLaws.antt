@@ -15,7 +15,7 @@ use Rattle.wf_ast.specs.declared.parsed.Root.{Root}
 use Rattle.wf_ast.specs.declared.parsed.Root.TheVariants as roots
 use Rattle.wf_ast.specs.declared.parsed.Receiver.TheVariants as receivers
 use Rattle.wf_ast.specs.ParsedTree as tree
-use Rattle.wf_ast.specs.ParsedTree.{CallTree, GivenTrees, TypeTree}
+use Rattle.wf_ast.specs.ParsedTree.{CallTree, TypeTree}
 use Rattle.wf_names_rules.specs.declared.callees.Callee.{Callee}
 use Rattle.wf_names_rules.specs.declared.callees.Callee.TheVariants as callees
 use Rattle.wf_names_rules.specs.declared.sorts.Sort.{Sort}

@@ -16,7 +16,7 @@ use Rattle.wf_names_rules.specs.Meanings.{Known, GivenValue, Parameters, is_base
 use Rattle.wf_names_rules.specs.Judged as judging
 use Rattle.wf_names_rules.specs.Judged.{callee_refusal, unknown_status, unknown_base_status, unknown_variable, unknown_struct, given_judged, given_judged_if, call_judged, judged}
 use Rattle.wf_names_rules.specs.NameRules as rules
-use Rattle.wf_names_rules.specs.NameRules.{UseBreaks, IsUsed, IsPassedTwice, given_names, given_texts, unknown, twice}
+use Rattle.wf_names_rules.specs.NameRules.{UseBreaks, IsUsed, given_names, unknown, twice}
 use Rattle.wf_names_rules.proofs.ListLaws.{doubles-sound, doubles-complete}
 use Rattle.wf_names_scopes.specs.UsesFound.{sites_judged, uses_found}
 use Rattle.wf_names_uses.proofs.FoundLemmas.{Has, has-item, item-has, Decides-all, refused-cause, refused-so, not-cause, not-so, none-cause, none-so}

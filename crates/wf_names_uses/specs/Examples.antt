@@ -15,7 +15,7 @@ use Rattle.wf_ast.specs.declared.parsed.Receiver.TheVariants as receivers
 use Rattle.wf_ast.specs.declared.parsed.Root.TheVariants as roots
 use Rattle.wf_ast.specs.declared.parsed.WrittenMark.TheVariants as marks
 use Rattle.wf_ast.specs.ParsedTree as tree
-use Rattle.wf_ast.specs.ParsedTree.{ExprTree, PartTree, GivenTrees, CallTree, TypeTree, StmtTree, BlockTree}
+use Rattle.wf_ast.specs.ParsedTree.{ExprTree, GivenTrees, CallTree, TypeTree, StmtTree, BlockTree}
 use Rattle.wf_names_rules.specs.Declarations.{Variable, Constant, Method, Declared, locals_of}
 
 -- line and column in the one file

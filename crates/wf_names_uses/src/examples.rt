@@ -1,11 +1,11 @@
 // Worked examples: small packages with what is found of their uses of names, computed. Each is the contract of a
 // function that does nothing.
 
-ghost use Rattle.std.specs.Prelude.{◌≡◌, Some, None, ◌∷◌, [], map};
+ghost use Rattle.std.specs.Prelude.{◌≡◌, None, ◌∷◌, [], map};
 ghost use Rattle.wf_text.specs.declared.rules.Rule.TheVariants.{N1, N2, N6, N7, N8};
 ghost use Rattle.wf_ast.specs.ParsedTree as tree;
 ghost use Rattle.wf_names_scopes.specs.UsesFound.{uses_found};
-ghost use Rattle.wf_names_uses.specs.Examples.{at, here, refused, name, bare, field, arg, one, sum, base, up_to, struct, variable, constant, constant_k, constant_l, package_with, fields_of_s, owner_s, body_of, doing, with_constants, with_field, owned_by, give, set, set_v, given, calls_this, calls_on, statements_with, packages_with};
+ghost use Rattle.wf_names_uses.specs.Examples.{at, here, refused, name, bare, field, arg, one, sum, up_to, struct, variable, constant, constant_k, constant_l, package_with, fields_of_s, owner_s, body_of, doing, with_constants, with_field, owned_by, give, set, set_v, given, calls_this, calls_on, statements_with, packages_with};
 
 /// Statuses: one that the package declares and one that it doesn't; one of the language, one that isn't, and one of the
 /// package where one of the language should stand.
@@ -89,8 +89,8 @@ pub fn arguments_by_the_rules_of_names()
     ensures none_wanted { uses_found (doing (calls_on (arg "src" 5) "length" 14 tree.no_given)) None ≡ None }
 {}
 
-/// Where more than one rule is broken the least place decides, in whatever order the uses are looked through, and of one place
-/// the rule that is named first. A call whose method or an argument of which has no meaning breaks no rule of arguments.
+/// Where more than one rule is broken the first refusal is found, in whatever order the uses are looked through.
+/// A call whose method or an argument of which has no meaning breaks no rule of arguments.
 pub fn the_least_place_decides_among_uses()
     ensures two_names { uses_found (doing (set_v (sum (tree.path (bare "gone" 9)) (tree.path (bare "n" 16))))) None ≡ refused N1 (here 9) }
     ensures the_first_is_there { uses_found (doing (set_v (sum (tree.path (bare "v" 9)) (tree.path (bare "n" 16))))) None ≡ refused N1 (here 16) }

@@ -1,6 +1,6 @@
-pub mod CallOrders
 pub mod Cycles
 pub mod Decided
+pub mod KeptOrders
 pub mod Large
 pub mod Names
 pub mod Ranked

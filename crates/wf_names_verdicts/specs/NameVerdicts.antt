@@ -22,8 +22,9 @@ WaysAreDecided = (step : ℕ → ℕ → Bool) (n : ℕ) → ((a b : ℕ) → st
 abbrev pub FieldsTakeBytes : Type 0
 FieldsTakeBytes = (d : Declared) (fields : List Variable) → (n : ℕ) × Take d fields n
 
--- The methods of a package that breaks no rule of names have an order in which each stands after those that it calls.
+-- The methods of a package that breaks no rule of names have an order in which each stands after those that it calls, and
+-- its structs one in which each stands after those that its fields hold.
 abbrev pub KeptPackagesHaveAnOrder : Type 0
 KeptPackagesHaveAnOrder =
     (name : List ℕ) (texts : List (List ℕ)) (decls : List DeclTree) → ((s : Refusal) → Breaks (declared texts decls) s → ⊥)
-    → (order : List ℕ) × HasOrder (resolved_package name texts decls order)
+    → (order : List ℕ) × (struct_order : List ℕ) × HasOrder (resolved_package name texts decls order struct_order)

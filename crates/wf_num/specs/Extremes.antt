@@ -2,7 +2,7 @@
 -- Both are found by looking at every pair, so that nothing has to be believed of the operation.
 use Rattle.std.specs.Prelude.{ℕ, zero, suc, ◌+◌, ◌-◌, min, max}
 
--- The greatest of f from, f (from + 1) .. f (from + more).
+-- The greatest value of f at `more + 1` numbers, `from` being the first.
 unfoldable pub greatest_of : (ℕ → ℕ) → (from more : ℕ) → ℕ
 greatest_of f from zero = f from
 greatest_of f from (suc more) = max (f (from + suc more)) (greatest_of f from more)
@@ -12,7 +12,7 @@ unfoldable pub least_of : (ℕ → ℕ) → (from more : ℕ) → ℕ
 least_of f from zero = f from
 least_of f from (suc more) = min (f (from + suc more)) (least_of f from more)
 
--- The greatest `op x y` for x from a to b and y from c to d.
+-- The greatest value of `op` where the left operand goes from a to b and the right one from c to d.
 unfoldable pub greatest : (ℕ → ℕ → ℕ) → (a b c d : ℕ) → ℕ
 greatest op a b c d = greatest_of (λ x. greatest_of (op x) c (d - c)) a (b - a)
 

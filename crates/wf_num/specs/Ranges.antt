@@ -27,7 +27,7 @@ pub record HoldsInt (r : Range) (z : ℤ) : Type 0 where
   pub above : r.lo ≤ℤ z
   pub below : z ≤ℤ pos r.hi
 
--- Both ends lie in 0 to 2^64 - 1, or the range is empty.
+-- The range is empty, or its ends have a place in 64 bits, without a sign.
 abbrev pub IsSmall : Range → Type 0
 IsSmall r = (is_empty r ≡ true) ⊎ ((pos 0 ≤ℤ r.lo) × (r.hi < 2 ^ 64))
 
@@ -86,7 +86,7 @@ shl_ranges a b = unless_empty a b (range (pos (shift_left (low a.lo) (low b.lo))
 abbrev pub shr_ranges : Range → Range → Range
 shr_ranges a b = unless_empty a b (range (pos (shift_right (low a.lo) b.hi)) (shift_right a.hi (low b.lo)))
 
--- From the least to the greatest value of `op x y`, for x in one range and y in the other.
+-- The values of `op` with a left operand of the one range and a right operand of the other, the least and the greatest of them.
 abbrev pub tight : (ℕ → ℕ → ℕ) → Range → Range → Range
 tight op a b =
     unless_empty a b (range (pos (least op (low a.lo) a.hi (low b.lo) b.hi)) (greatest op (low a.lo) a.hi (low b.lo) b.hi))

@@ -111,10 +111,8 @@ pub fn c_rem(ty: CTy, a: u64, b: u64) -> Option<u64>
     ensures undefined { IsNone result ↔ HasNoQuotient ty a b }
     ensures carries { IfSome result (Carries ty (int_rem (c_value ty a) (c_value ty b))) }
 {
-    match c_div(ty, a, b) {
-        None => None,
-        Some(_) => ty.carried(ty.value(a) % ty.value(b)),
-    }
+    c_div(ty, a, b)?;
+    ty.carried(ty.value(a) % ty.value(b))
 }
 
 /// `a << b` (6.5.7). The two operands are promoted apart, so `b` is not of type `ty`: it is the value of the promoted

@@ -86,7 +86,7 @@ fn all_ones(k: u32) -> u64
     m + (m - 1)
 }
 
-/// The greatest `x | y` for x and y of two spans of numbers of `k` bits.
+/// The upper end of `x | y`, where x is in the one span, y in the other, and both have `k` bits.
 #[tactic(auto, using(crate::proofs::Bits::greatest_steps))]
 fn max_or(k: u32, xs: Span, ys: Span) -> u64
     requires bits { k ≤ 64 }
@@ -113,7 +113,7 @@ fn max_or(k: u32, xs: Span, ys: Span) -> u64
     }
 }
 
-/// The least `x | y` for x and y of two spans of numbers of `k` bits.
+/// The lower end of `x | y`, where x is in the one span, y in the other, and both have `k` bits.
 #[tactic(auto, using(crate::proofs::Bits::least_steps))]
 fn min_or(k: u32, xs: Span, ys: Span) -> u64
     requires bits { k ≤ 64 }
@@ -142,7 +142,7 @@ fn min_or(k: u32, xs: Span, ys: Span) -> u64
     }
 }
 
-/// The greatest `x | y` for x and y of two spans, neither of them empty.
+/// The upper end of `x | y`, where x is in the one span and y in the other, and neither is empty.
 pub(crate) fn greatest_or(xs: Span, ys: Span) -> u64
     requires xs { xs.lo ≤ xs.hi }
     requires ys { ys.lo ≤ ys.hi }
@@ -160,8 +160,8 @@ pub(crate) fn least_or(xs: Span, ys: Span) -> u64
     min_or(bits_of(xs.hi, ys.hi), xs, ys)
 }
 
-/// The greatest `x & y` for x and y of two spans, neither of them empty: by De Morgan's law, the complement of the
-/// least `|` of complements, in the bits that they have.
+/// The upper end of `x & y`, where x is in the one span and y in the other, and neither is empty: by De Morgan's law, the
+/// complement of the least `|` of complements, in the bits that they have.
 #[tactic(auto, using(crate::proofs::Ends::ends))]
 pub(crate) fn greatest_and(xs: Span, ys: Span) -> u64
     requires xs { xs.lo ≤ xs.hi }

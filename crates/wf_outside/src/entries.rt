@@ -1,6 +1,6 @@
 // Look-ups in the lists that inputs and sinks in memory are made of. The first entry that fits counts.
 
-ghost use Rattle.std.specs.Prelude.{◌≡◌, ℕ, ◌+◌, ◌≤◌, List, map, nat_eq, string_bytes, take};
+ghost use Rattle.std.specs.Prelude.{◌≡◌, ◌+◌, ◌≤◌, map, nat_eq, string_bytes, take};
 ghost use Rattle.std.specs.Option.{option_map};
 ghost use Rattle.std.specs.List.{list_any};
 ghost use Rattle.wf_outside.specs.InMemory.{bytes_under, gone_at};

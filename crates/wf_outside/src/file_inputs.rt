@@ -1,7 +1,7 @@
 // Inputs that are files. What a file holds can't be told by any clause: this is the edge that is trusted, and
 // the loop over a reader, which has the bytes where the reader tells them, is the part that is proved.
 
-ghost use Rattle.std.specs.Prelude.{◌≡◌, ℕ, ◌-◌, ◌^◌, ◌<◌, ◌≤◌, [], None, IfSome};
+ghost use Rattle.std.specs.Prelude.{◌≡◌, ◌-◌, ◌<◌, ◌≤◌, [], None, IfSome};
 ghost use Rattle.wf_outside.specs.Inputs.{Takes, TakesLength};
 
 use crate::inputs::{Inputs, TakeFault};

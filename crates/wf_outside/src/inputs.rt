@@ -36,9 +36,10 @@ pub trait Inputs {
 
     ghost faults: { Self → ℕ };
 
-    /// Takes the input under `name` into `into`, which is empty, up to `most` bytes (at most 1,048,576).
+    /// Takes the input under `name` into `into`, which is empty, up to `most` bytes, which is at most
+    /// 1,048,576.
     ///
-    /// Ok: `into` holds the whole input. `TooLong`: the input has more than `most` bytes, and `into` holds its
+    /// Ok: `into` has all bytes of the input. `TooLong`: the input has more than `most` bytes, and `into` holds its
     /// first `most + 1`. `Failed`: the fault was counted, and `into` holds a front part of the input.
     /// `Memory`: memory was refused, and `into` holds a front part.
     fn take(&mut self, name: &str, into: &mut Vec<u8>, most: u64) -> Result<(), TakeFault>

@@ -1,8 +1,8 @@
 // Inputs in memory that never fail.
 
-ghost use Rattle.std.specs.Prelude.{◌≡◌, ℕ, ◌-◌, ◌^◌, ◌<◌, ◌≤◌, List, [], None, Some, Option, IfSome, map, string_bytes};
+ghost use Rattle.std.specs.Prelude.{◌≡◌, ℕ, ◌-◌, ◌<◌, ◌≤◌, List, [], None, map, string_bytes};
 ghost use Rattle.wf_outside.specs.Inputs.{CountsTake, NamesFailed, Takes, TakesLength};
-ghost use Rattle.wf_outside.specs.InMemory.{AnswersGiven, bytes_or_empty, bytes_under, held_by_all};
+ghost use Rattle.wf_outside.specs.InMemory.{AnswersGiven, bytes_or_empty, held_by_all};
 
 use crate::entries::{find_bytes, front_of};
 use crate::inputs::{Inputs, TakeFault};

@@ -1,6 +1,6 @@
 // A sink in memory that fails only for want of room.
 
-ghost use Rattle.std.specs.Prelude.{◌≡◌, ℕ, ◌+◌, ◌-◌, ◌^◌, ◌<◌, ◌≤◌, None, Some, IfOk, [], length, vec_len, vec_capacity};
+ghost use Rattle.std.specs.Prelude.{◌≡◌, ◌+◌, ◌-◌, ◌^◌, ◌<◌, ◌≤◌, None, Some, IfOk, [], length, vec_len, vec_capacity};
 ghost use Rattle.wf_outside.specs.Sinks.{CountsPut, FitsRoom, Puts, longest_with};
 ghost use Rattle.wf_outside.specs.InMemory.{PureSinkState, after_pure_put, answer_by_room};
 

@@ -11,8 +11,8 @@ pub struct SinkFault {
 
 /// Where the bytes of an answer go.
 ///
-/// `written` is all that was written, `room` how many more bytes the sink is sure to take, and `longest` the
-/// length of the longest piece that was put, each where the object tells it. `faults` counts the puts that
+/// `written` is all that was written, `room` how many more bytes the sink is sure to take, and `longest` how
+/// many bytes the longest piece had so far; an object may leave each of them untold. `faults` counts the puts that
 /// failed.
 pub trait Sink {
     ghost written: { Self → Option (List ℕ) };

@@ -2,15 +2,15 @@
 // edge that is trusted, and the loop over a writer, which has the bytes where the writer tells them, is the
 // part that is proved.
 
-ghost use Rattle.std.specs.Prelude.{◌≡◌, ℕ, None};
+ghost use Rattle.std.specs.Prelude.{◌≡◌, None};
 ghost use Rattle.wf_outside.specs.Sinks.{Puts};
 
 use crate::sinks::{Sink, SinkFault};
 use std::io;
 use std::io::Write;
 
-/// The standard output that a runtime reaches. Each write that fails, or that takes nothing of a piece that
-/// isn't empty, is a fault.
+/// The standard output that a runtime reaches. A write is a fault where it fails, and where it takes no
+/// byte though there is one.
 #[derive(Drop)]
 pub struct StdSink<'a, P> {
     output: &'a P,

@@ -1,5 +1,5 @@
 -- A file, token by token.
-use Rattle.std.proofs.Common.{◌≡◌, ◌≤◌, ◌+◌, ◌-◌, ◌<◌, ℕ, zero, suc, Bool, true, false, Option, None, Some, IfSome, Ok, List, [], ◌∷◌, ◌++◌, length, refl, sym, ◌∙◌, ap, subst, arith, length-append, append_assoc, nat_eq, if◌then◌else◌, Err}
+use Rattle.std.proofs.Common.{◌≡◌, ◌+◌, ◌-◌, ◌<◌, ℕ, zero, suc, Bool, true, false, Option, None, Some, IfSome, Ok, List, [], ◌∷◌, ◌++◌, length, refl, sym, ◌∙◌, ap, subst, arith, length-append, append_assoc, nat_eq, if◌then◌else◌, Err}
 use Rattle.wf_text.specs.declared.faults.PhaseFault.{PhaseFault}
 use Rattle.wf_text.specs.declared.faults.PhaseFault.TheVariants as phase
 use Rattle.std.proofs.lemmas.Bool.Decides.{nat_tests}
@@ -23,19 +23,16 @@ use Rattle.wf_parse_grammar.specs.declared.tokens.Token.{Token}
 use Rattle.wf_parse_grammar.specs.Building.{Ending, Built, Refused, ends}
 use Rattle.wf_parse_grammar.specs.Values.{Made}
 use Rattle.wf_parse_nodes.specs.declared.maker.Maker.{Maker}
-use Rattle.wf_parse_nodes.specs.declared.values.Value.{Value}
-use Rattle.wf_parse_nodes.specs.Makers.{IsSound, nodes}
+use Rattle.wf_parse_nodes.specs.declared.values.SemanticValue.{SemanticValue}
+use Rattle.wf_parse_nodes.specs.Makers.{IsSound}
 use Rattle.wf_parse_nodes.specs.Seen.{AreOf, IsOrdered, made_of}
-use Rattle.wf_parse.specs.declared.machine.Machine.{Machine}
 use Rattle.wf_parse.specs.Lexing.{AnswersNext, AreTokensOf, IsWholeFile, ChangesTexts, LexedSoFar, ReadsToken, ReadsRest}
-use Rattle.wf_parse.specs.Machines.{State, file_start, state_of, size, AnswersToken, MakesFirst}
+use Rattle.wf_parse.specs.Machines.{State, AnswersToken, MakesFirst}
 use Rattle.wf_parse.specs.Parsing.{RefusesFile, place_left, refusal_of}
 use Rattle.wf_parse.specs.Reading.{ReadsOne, AnswersBytes, AnswersFileEnd, reading, read_file}
-use Rattle.wf_parse.specs.Texts.{with_text}
 use Rattle.wf_parse.proofs.Lexed.{lexed_more, lexed_whole, lexed_up_to}
 use Rattle.wf_parse.proofs.Outcomes.{bad_step}
 use Rattle.wf_parse.proofs.ReadingVerdicts.{refused_is_wrong, built_is_accepted}
-use Rattle.wf_parse.proofs.TextNumbers.{with_text-length}
 
 -- What stands on top is performed first, whatever tokens are left.
 reading_makes : (most : ℕ) (ts : List Token) → MakesFirst (λ room k made. reading most room ts k made)
@@ -51,19 +48,6 @@ token_read true (suc most) t old new done is some answers ts =
     let less : most ≡ suc most - 1 = omega (arith) in
     answers (suc (length ts)) (λ room k made. reading most room ts k made) (reading_makes most ts) ∙ ap (λ n. reading n new.room ts new.wants new.made) less
 
--- Before a file.
-pub start_sound : (old new : Maker) → IsSound old → new.package ≡ old.package → new.values ≡ [] → IsSound new
-start_sound old new s e f =
-    let P : Parsed → Type 0 = IsOrdered in
-    let Q : List Value → Type 0 = AreOf new.package in
-    record { ordered = subst P (sym e) s.ordered; below = subst Q (sym f) tt }
-
-pub start_size : (old new : Machine) (made : Made) → new.maker.package ≡ old.maker.package → state_of new ≡ file_start made → size new ≡ nodes old.maker + 2
-start_size old new made e f =
-    let same : nodes new.maker ≡ nodes old.maker = ap (λ (p : Parsed). length p.exprs + length p.stmts) e in
-    let one : length new.wants ≡ 1 = ap (λ (s : State). length s.wants) f in
-    omega (arith, same, one)
-
 -- After texts that have joined.
 pub texts_sound : (old new : Maker) → IsSound old → ChangesTexts old.package new.package → new.values ≡ old.values → IsSound new
 texts_sound old new s e f =
@@ -71,18 +55,8 @@ texts_sound old new s e f =
     let joined : Parsed = record old.package { texts = new.package.texts } in
     let there : P joined = (record { stmts = s.ordered.stmts; decls = s.ordered.decls }, s.below) in
     let both : P new.package = subst P (sym e) there in
-    let Q : List Value → Type 0 = AreOf new.package in
+    let Q : List SemanticValue → Type 0 = AreOf new.package in
     record { ordered = both.0; below = subst Q (sym f) both.1 }
-
--- Texts that join.
-pub changes_more : (a b c : Parsed) → ChangesTexts a b → ChangesTexts b c → ChangesTexts a c
-changes_more a b c x y = y ∙ ap (λ (p : Parsed). let q : Parsed = record p { texts = c.texts } in q) x
-
-pub joins_one : (known texts : List (List ℕ)) (text : Option (List ℕ)) → texts ≡ with_text known text → length texts ≤ length known + 1
-joins_one known texts text e =
-    let count : length texts ≡ length (with_text known text) = ap length e in
-    let few = with_text-length known text in
-    omega (arith, count, few)
 
 -- A file of which some tokens are read. `p` is the package before it; `first` tokens may stand in the file and those after
 -- it, and `most` of them are left.
@@ -92,20 +66,11 @@ pub record ReadSoFar (number first : ℕ) (bytes : List ℕ) (p : Parsed) (lexer
   pub goes_on : (ts : List Token) → reading most now.room ts now.wants now.made ≡ read_file first (tokens ++ ts) (decls_of p)
   pub count : first ≡ most + length tokens
 
-pub so_far_start : (number first : ℕ) (bytes : List ℕ) (p q : Parsed) (lexer : spelling.State) (now : State) → q ≡ p → lexer ≡ start number bytes → now ≡ file_start (record { vals = []; decls = decls_of p })
-    → ReadSoFar number first bytes p lexer q.texts first now
-so_far_start number first bytes p q lexer now same at e = record {
-  tokens = [];
-  lexed = record { items = []; reads = sym at; texts_are = ap (λ (x : Parsed). x.texts) same; tokens_are = tt };
-  goes_on = λ ts. ap (λ (s : State). reading first s.room ts s.wants s.made) e;
-  count = omega arith;
-}
-
 -- Texts that join change nothing of what is made.
-abbrev pub state_with : (room : ℕ) → (wants : List Want) → (values : List Value) → Parsed → State
+abbrev pub state_with : (room : ℕ) → (wants : List Want) → (values : List SemanticValue) → Parsed → State
 state_with room wants values p = record { room = room; wants = wants; made = made_of p values }
 
-pub same_state : (room : ℕ) (wants : List Want) (values : List Value) (p q : Parsed) → ChangesTexts p q → state_with room wants values q ≡ state_with room wants values p
+pub same_state : (room : ℕ) (wants : List Want) (values : List SemanticValue) (p q : Parsed) → ChangesTexts p q → state_with room wants values q ≡ state_with room wants values p
 same_state room wants values p q e = ap (state_with room wants values) e
 
 -- One token more.

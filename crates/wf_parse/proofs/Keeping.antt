@@ -18,7 +18,6 @@ use Rattle.wf_parse.specs.declared.machine.Machine.{Machine}
 use Rattle.wf_parse.specs.declared.machine.StepFault.{StepFault}
 use Rattle.wf_parse.specs.declared.machine.StepFault.TheVariants.{Refused, Memory}
 use Rattle.wf_ast.specs.ParsedParts.{Parsed}
-use Rattle.wf_parse_nodes.specs.Makers.{KeepsTexts}
 use Rattle.wf_parse.specs.Machines.{State, size, AnswersBuild, KeepsAt, MakesFirst, Wanted}
 
 -- A list is no longer than with actions before it.
@@ -115,7 +114,3 @@ pub memory_only : (r : Result Bool StepFault) (old new : Parsed) → IfErr r (λ
 memory_only (Ok taken) old new h = tt
 memory_only (Err (Refused rule)) old new h = absurd (cc h)
 memory_only (Err Memory) old new h = tt
-
-pub keeps_on : (stop : StepFault) (a b c : Parsed) → KeepsTexts a b → KeepsAt stop b c → KeepsAt stop a c
-keeps_on (Refused rule) a b c first then_on = record { name = then_on.name ∙ first.name; texts = then_on.texts ∙ first.texts }
-keeps_on Memory a b c first then_on = tt

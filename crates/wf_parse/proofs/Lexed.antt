@@ -1,6 +1,5 @@
 -- What a loop over the tokens of a file keeps.
-use Rattle.std.proofs.Common.{◌≡◌, ℕ, Some, None, List, [], ◌∷◌, ◌++◌, length, sym, ◌∙◌, ap, subst, arith, suc, length-append, append_assoc}
-use Rattle.std.proofs.lemmas.List.{append-nil}
+use Rattle.std.proofs.Common.{◌≡◌, ℕ, Some, None, List, [], ◌∷◌, ◌++◌, length, sym, ◌∙◌, ap, subst, arith, length-append, append_assoc}
 use Rattle.std.specs.List.{slice_get}
 use Rattle.std.proofs.lemmas.Option.{slice_get_within}
 use Rattle.wf_text.specs.declared.rules.Refusal.{Refusal}
@@ -10,10 +9,9 @@ use Rattle.wf_parse_grammar.specs.declared.tokens.Kind.TheVariants as kinds
 use Rattle.wf_parse_grammar.specs.declared.tokens.Token.{Token}
 use Rattle.wf_tokens.specs.declared.kinds.TokenKind.{TokenKind}
 use Rattle.wf_tokens.specs.declared.kinds.TokenKind.TheVariants as spelt
-use Rattle.wf_tokens.specs.Pieces.{IsText}
-use Rattle.wf_tokens.specs.Spelling.{State, Item, Reads, ReadsAll, IsStuck, IsOver, start}
-use Rattle.wf_tokens.proofs.ReadingOn.{reads_more, text_read}
-use Rattle.wf_parse.specs.Kinds.{KindIs, IsReadable}
+use Rattle.wf_tokens.specs.Spelling.{State, Item, Reads, IsStuck, IsOver, start}
+use Rattle.wf_tokens.proofs.ReadingOn.{reads_more}
+use Rattle.wf_parse.specs.Kinds.{KindIs}
 use Rattle.wf_parse.specs.Lexing.{TokenIs, TokensAre, IsWholeFile, IsFileUpTo, LexedSoFar, ReadsToken, ReadsRest}
 use Rattle.wf_parse.specs.Texts.{text_of, with_text, texts_behind}
 use Rattle.wf_parse.proofs.TextNumbers.{with_text-grows, texts_behind-more}
@@ -72,12 +70,6 @@ pub record PassedSoFar (old now : State) (known texts : List (List ℕ)) : Type 
   pub tokens : List Token
   pub on : (file : ℕ) (bytes : List ℕ) (first : List (List ℕ)) (front : List Token) → LexedSoFar file bytes old first known front → LexedSoFar file bytes now first texts (front ++ tokens)
 
-pub passed_start : (old : State) (known : List (List ℕ)) → PassedSoFar old old known known
-passed_start old known = record {
-  tokens = [];
-  on = λ file bytes first front l. let P : List Token → Type 0 = LexedSoFar file bytes old first known in subst P (sym (append-nil front)) l;
-}
-
 pub passed_more : (old now new : State) (known texts grown : List (List ℕ)) (t : Token) → PassedSoFar old now known texts → ReadsToken now texts t new grown → PassedSoFar old new known grown
 passed_more old now new known texts grown t p r = record {
   tokens = p.tokens ++ t ∷ [];
@@ -107,11 +99,3 @@ passed_stuck old now known texts after refusal p stuck =
       whole = λ file bytes first front l. lexed_up_to file bytes now first texts (front ++ p.tokens) (front ++ (p.tokens ++ bad ∷ [])) refusal (p.on file bytes first front l) stuck.0 (sym (append_assoc front p.tokens (bad ∷ [])));
     } in
     subst P (sym stuck.1) rest
-
--- A text has its quotes.
-pub is_readable : (old : State) (item : Item) (new : State) → Reads old item new → IsReadable item
-is_readable old item new r is =
-    let text : IsText item.text = text_read old item new r is in
-    let long = length-append text.inner (34 ∷ []) in
-    let whole : length item.text ≡ suc (length (text.inner ++ 34 ∷ [])) = ap length text.quoted in
-    omega (arith, long, whole)

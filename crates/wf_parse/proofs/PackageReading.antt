@@ -1,31 +1,23 @@
 -- A package, file by file.
-use Rattle.std.proofs.Common.{◌≡◌, ◌≤◌, ◌<◌, ◌+◌, ◌-◌, inl, inr, ℕ, zero, suc, Option, None, Some, Err, List, [], ◌∷◌, ◌++◌, map, drop, length, refl, sym, ◌∙◌, ap, subst, arith, append_assoc, get_or}
+use Rattle.std.proofs.Common.{◌≡◌, ◌≤◌, ◌<◌, ◌+◌, ◌-◌, inl, inr, ℕ, zero, suc, Err, List, [], ◌∷◌, ◌++◌, map, drop, length, refl, sym, ◌∙◌, ap, subst, arith, append_assoc, get_or}
 use Rattle.std.proofs.Math.Seq.{drop-cons, drop-nil}
 use Rattle.std.proofs.lemmas.List.{append-nil, drop-map}
 use Rattle.std.specs.Prelude.{sum_by}
 use Rattle.std.proofs.lemmas.List.Sums.{sum_by-cons}
 use Rattle.wf_text.specs.declared.faults.PhaseFault.{PhaseFault}
 use Rattle.wf_text.specs.declared.faults.PhaseFault.TheVariants as phase
-use Rattle.wf_text.specs.declared.place.Place.{Place}
 use Rattle.wf_text.specs.declared.rules.Refusal.{Refusal}
-use Rattle.wf_text.specs.declared.rules.Rule.{Rule}
 use Rattle.wf_ast.specs.ParsedParts.{Parsed}
 use Rattle.wf_ast.specs.ParsedTree.{DeclTree}
 use Rattle.wf_ast.specs.ParsedTrees.{decl_trees}
 use Rattle.wf_ast.specs.ReadPackage.{decls_of}
-use Rattle.wf_parse_grammar.specs.declared.tokens.Token.{Token}
-use Rattle.wf_parse_grammar.specs.declared.symbols.Sym.TheVariants.{File}
-use Rattle.wf_parse_grammar.specs.declared.symbols.Want.TheVariants.{Read}
-use Rattle.wf_parse_grammar.specs.Building.{Built, Refused}
-use Rattle.wf_parse_grammar.specs.Values.{Made}
-use Rattle.wf_tokens.specs.Places.{behind_bytes, first_place}
-use Rattle.wf_parse.specs.Lexing.{AreTokensOf, IsWholeFile, ChangesTexts}
+use Rattle.wf_parse_grammar.specs.Building.{Refused}
 use Rattle.wf_parse_nodes.specs.declared.maker.Maker.{Maker}
-use Rattle.wf_parse_nodes.specs.declared.values.Value.{Value}
-use Rattle.wf_parse_nodes.specs.Makers.{KeepsTexts, IsSound, nodes}
+use Rattle.wf_parse_nodes.specs.declared.values.SemanticValue.{SemanticValue}
+use Rattle.wf_parse_nodes.specs.Makers.{IsSound, nodes}
 use Rattle.wf_parse_nodes.specs.Seen.{AreOf, IsOrdered}
-use Rattle.wf_parse.specs.Parsing.{RefusesFile, ReadsFiles, RefusesFiles, IsRefusedBy, AnswersParse, refusal_of}
-use Rattle.wf_parse.specs.Reading.{ReadsOne, AnswersBytes, read_file}
+use Rattle.wf_parse.specs.Parsing.{RefusesFile, ReadsFiles, RefusesFiles, IsRefusedBy, AnswersParse}
+use Rattle.wf_parse.specs.Reading.{ReadsOne, AnswersBytes}
 
 -- What is read and refused from here on is read and refused from the first file on.
 pub record Leads (number most : ℕ) (p : Parsed) (rest files : List (List ℕ)) : Type 0 where
@@ -89,7 +81,7 @@ module _ {X : Type 0} (f : X → List ℕ) where
 pub new_sound : (m : Maker) (name : List ℕ) → m.package ≡ record { name = name; texts = []; exprs = []; stmts = []; decls = [] } → m.values ≡ [] → IsSound m
 new_sound m name e f =
     let P : Parsed → Type 0 = IsOrdered in
-    let Q : List Value → Type 0 = AreOf m.package in
+    let Q : List SemanticValue → Type 0 = AreOf m.package in
     record { ordered = subst P (sym e) (record { stmts = tt; decls = tt }); below = subst Q (sym f) tt }
 
 pub new_nodes : (m : Maker) (name : List ℕ) → m.package ≡ record { name = name; texts = []; exprs = []; stmts = []; decls = [] } → nodes m ≡ 0

@@ -1,11 +1,10 @@
 -- A token puts few wanted things on the stack.
-use Rattle.std.proofs.Common.{◌≡◌, ◌≤◌, Bool, true, false, if◌then◌else◌, nat_le, nat_eq, List, length, refl}
+use Rattle.std.proofs.Common.{◌≡◌, ◌≤◌, Bool, true, false, if◌then◌else◌, nat_le, nat_eq, length, refl}
 use Rattle.std.proofs.lemmas.Bool.{leb-true}
 use Rattle.wf_text.specs.declared.place.Place.{Place}
 use Rattle.wf_ast.specs.declared.operators.Op.TheVariants as ops
 use Rattle.wf_ast.specs.Operators.{same_op}
 use Rattle.wf_parse_grammar.specs.declared.builds.Build.{Build}
-use Rattle.wf_parse_grammar.specs.declared.symbols.Action.{Action}
 use Rattle.wf_parse_grammar.specs.declared.symbols.Sym.{Sym}
 use Rattle.wf_parse_grammar.specs.declared.symbols.Sym.TheVariants as syms
 use Rattle.wf_parse_grammar.specs.declared.tokens.Kind.{Kind}
@@ -156,8 +155,3 @@ few_wanted s t p b e =
 few : (s : Sym) → nat_le (length (skips s)) 2 ≡ true
 few syms.File = refl
 few s = refl
-
-pub few_skips : (s : Sym) (actions : List Action) → actions ≡ skips s → length actions ≤ 2
-few_skips s actions e =
-    let h : nat_le (length actions) 2 ≡ true = rw e (few s) in
-    leb-true (length actions) 2 h

@@ -1,6 +1,6 @@
 // The tokens of a file, as the grammar reads them: each is made when it is asked for, and none is stored.
 
-ghost use Rattle.std.specs.Prelude.{◌≡◌, ◌+◌, ◌*◌, ◌<◌, ◌≤◌, ◌^◌, length, OnOk, IfOk, IfSome};
+ghost use Rattle.std.specs.Prelude.{◌≡◌, ◌+◌, ◌<◌, ◌≤◌, ◌^◌, length, OnOk, IfOk, IfSome};
 ghost use Rattle.wf_tokens.specs.Places.{behind_bytes};
 ghost use Rattle.wf_tokens.specs.Spelling.{start, left};
 ghost use Rattle.wf_parse.specs.Lexing.{ChangesTexts, AnswersNext, ReadsRest};

@@ -1,7 +1,7 @@
 // The machine of the grammar: what is wanted stands on a stack, and each token is looked up in the table for the
 // topmost of it.
 
-ghost use Rattle.std.specs.Prelude.{◌≡◌, ◌+◌, ◌<◌, ◌≤◌, ◌^◌, ◌⊎◌, if◌then◌else◌, ℕ, List, [], ◌∷◌, drop, length, true, false, nat_le, IfOk, IfErr, OnOk};
+ghost use Rattle.std.specs.Prelude.{◌≡◌, ◌+◌, ◌<◌, ◌≤◌, ◌^◌, ◌⊎◌, if◌then◌else◌, ◌∷◌, drop, length, true, false, nat_le, IfOk, IfErr, OnOk};
 ghost use Rattle.wf_text.specs.declared.rules.Rule.TheVariants.{S5};
 ghost use Rattle.wf_parse.specs.declared.machine.StepFault.TheVariants.{Refused, Memory};
 ghost use Rattle.wf_parse_grammar.specs.declared.symbols.Want.TheVariants.{Read};

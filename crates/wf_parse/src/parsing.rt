@@ -1,6 +1,6 @@
 // Reading a package.
 
-ghost use Rattle.std.specs.Prelude.{◌≡◌, ◌+◌, ◌*◌, ◌<◌, ◌≤◌, ◌^◌, List, [], length, map, sum_by, IfOk, IfErr, OnOk};
+ghost use Rattle.std.specs.Prelude.{◌≡◌, ◌+◌, ◌*◌, ◌<◌, ◌≤◌, ◌^◌, [], length, map, sum_by, IfOk, IfErr, OnOk};
 ghost use Rattle.wf_ast.specs.ReadPackage.{decls_of};
 ghost use Rattle.wf_parse_nodes.specs.Makers.{nodes, IsSound, KeepsTexts};
 ghost use Rattle.wf_parse.specs.Machines.{size, state_of, file_start, KeepsAt};
@@ -59,12 +59,11 @@ impl Machine {
         ensures refused { IfErr result (λ stop. KeepsAt stop self.old.maker.package self.new.maker.package) }
         ensures size { OnOk result (size self.new ≤ size self.old + 32) }
     {
-        match self.step(0 < most, token) {
-            Ok(()) if 0 < most => Ok(()),
-            Ok(()) => Err(StepFault::Refused(Rule::L3)),
-            Err(StepFault::Refused(rule)) => Err(StepFault::Refused(rule)),
-            Err(StepFault::Memory) => Err(StepFault::Memory),
+        self.step(0 < most, token)?;
+        if most == 0 {
+            return Err(StepFault::Refused(Rule::L3));
         }
+        Ok(())
     }
 
     /// Reads the bytes of the file with this number. `most` tokens may stand in it and the files after it; what is
@@ -129,8 +128,8 @@ fn read_nodes(alloc: Global, name: &str, files: &[Vec<u8>]) -> Result<PackageNod
     Ok(machine.maker.package)
 }
 
-/// Reads the files of the package with this name, in order. S1 to S6, L3, L4 and L5 where a file breaks them: the
-/// first token that does decides.
+/// Reads the files of the package with this name, in order. S1 to S6, L3, L4 and L5 where a file breaks them, at
+/// the first token that does.
 pub fn parse(alloc: Global, name: &str, files: &[Vec<u8>]) -> Result<Package, PhaseFault>
     requires count { length files.now ≤ 16 }
     requires bytes { sum_by (λ file. length file.items) files.now ≤ 1048576 }

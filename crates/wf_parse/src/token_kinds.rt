@@ -1,7 +1,7 @@
 // What the tokens of a file are for the grammar.
 
 ghost use Rattle.std.specs.Prelude.{◌≡◌, ◌<◌, ◌≤◌, ◌^◌, Some, length, slice_get, OnOk, IfOk};
-ghost use Rattle.wf_tokens.specs.Spelling.{Item, item_of};
+ghost use Rattle.wf_tokens.specs.Spelling.{item_of};
 ghost use Rattle.wf_parse.specs.Kinds.{word_kind, operator_of, operator_kind, comparison_kind, symbol_kind, unquoted, KindIs, IsReadable};
 ghost use Rattle.wf_parse.specs.Lexing.{ChangesTexts};
 ghost use Rattle.wf_parse.specs.Texts.{text_of, with_text};

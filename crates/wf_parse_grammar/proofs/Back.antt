@@ -15,7 +15,7 @@ use Rattle.wf_parse_grammar.specs.Grammar.{givens_before, more_givens_before}
 use Rattle.wf_parse_grammar.specs.Machine as m
 use Rattle.wf_parse_grammar.specs.declared.symbols.Sym.{Sym}
 use Rattle.wf_parse_grammar.specs.declared.symbols.Sym.TheVariants as syms
-use Rattle.wf_parse_grammar.specs.Machine.{Move, Take, Begin, Enter, Pass, Stop, move, may_end}
+use Rattle.wf_parse_grammar.specs.Machine.{Move, Take, Begin, Enter, Pass, Stop}
 use Rattle.wf_ast.specs.Operators.{same_op}
 use Rattle.wf_parse_grammar.specs.Words.{Word, Words}
 use Rattle.wf_parse_grammar.proofs.OpLemmas.{same_op-true}

@@ -16,7 +16,7 @@ use Rattle.wf_parse_grammar.specs.Grammar.{stmt_before, items_before, more_items
 use Rattle.wf_parse_grammar.specs.Machine as m
 use Rattle.wf_parse_grammar.specs.declared.symbols.Sym.{Sym}
 use Rattle.wf_parse_grammar.specs.declared.symbols.Sym.TheVariants as syms
-use Rattle.wf_parse_grammar.specs.Machine.{Move, Take, Begin, Enter, Pass, Stop, move, may_end}
+use Rattle.wf_parse_grammar.specs.Machine.{Move, Take, Begin, Enter, Pass, Stop}
 use Rattle.wf_parse_grammar.specs.Words.{Word, Words}
 use Rattle.wf_parse_grammar.proofs.OpLemmas.{eq-true}
 use Rattle.wf_parse_grammar.proofs.Back.{OnTaken, Back, back-followed, back-expr, back-type, cut-words}

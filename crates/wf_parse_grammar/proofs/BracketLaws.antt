@@ -9,7 +9,7 @@ use Rattle.wf_parse_grammar.specs.declared.tokens.Token.{Token}
 use Rattle.wf_parse_grammar.specs.Machine as m
 use Rattle.wf_parse_grammar.specs.declared.symbols.Sym.{Sym}
 use Rattle.wf_parse_grammar.specs.declared.symbols.Sym.TheVariants as syms
-use Rattle.wf_parse_grammar.specs.Machine.{Move, Take, Begin, Enter, Pass, Stop, move, may_end, owes, one_more_if, open_count}
+use Rattle.wf_parse_grammar.specs.Machine.{Move, Take, Begin, Enter, Pass, Stop, move, owes, one_more_if, open_count}
 use Rattle.wf_ast.specs.Operators.{same_op}
 use Rattle.wf_parse_grammar.specs.Brackets.{one_if, is_opening, is_closing, opened, closed}
 use Rattle.wf_parse_grammar.specs.Feeding.{fed, feed, feeds, go_on}

@@ -16,9 +16,9 @@ use Rattle.wf_parse_grammar.specs.declared.symbols.Action.TheVariants as does
 use Rattle.wf_parse_grammar.specs.declared.symbols.Want.{Want}
 use Rattle.wf_parse_grammar.specs.declared.symbols.Want.TheVariants.{Read, Make}
 use Rattle.wf_parse_grammar.specs.Machine as m
-use Rattle.wf_parse_grammar.specs.Machine.{Move, Outcome, move, may_end, owes, opens, one_more_if, open_count}
+use Rattle.wf_parse_grammar.specs.Machine.{Outcome, move, may_end, owes, opens, one_more_if, open_count}
 use Rattle.wf_parse_grammar.specs.Building as b
-use Rattle.wf_parse_grammar.specs.Building.{Build, Take, Begin, Enter, Pass, Stop, build, Ending, Built, Refused, open_wants, skipped}
+use Rattle.wf_parse_grammar.specs.Building.{Build, Take, Begin, Enter, Pass, Stop, build, Ending, Refused, open_wants, skipped}
 use Rattle.wf_parse_grammar.specs.Values.{Made, perform}
 use Rattle.wf_parse_grammar.specs.Erasure.{erased, erased_move, outcome}
 

@@ -15,7 +15,7 @@ use Rattle.wf_parse_grammar.specs.Grammar.{path_before, on_before, expr_before, 
 use Rattle.wf_parse_grammar.specs.Machine as m
 use Rattle.wf_parse_grammar.specs.declared.symbols.Sym.{Sym}
 use Rattle.wf_parse_grammar.specs.declared.symbols.Sym.TheVariants as syms
-use Rattle.wf_parse_grammar.specs.Machine.{Move, Take, Begin, Enter, Pass, Stop, move, may_end}
+use Rattle.wf_parse_grammar.specs.Machine.{Take}
 use Rattle.wf_ast.specs.Operators.{same_op, op_number}
 use Rattle.wf_parse_grammar.proofs.OpLemmas.{eq-self}
 use Rattle.wf_parse_grammar.specs.Feeding.{fed, feed, feeds, go_on}

@@ -16,10 +16,10 @@ use Rattle.wf_parse_grammar.specs.Grammar.{path_before, on_before, mark_part_bef
 use Rattle.wf_parse_grammar.specs.Machine as m
 use Rattle.wf_parse_grammar.specs.declared.symbols.Sym.{Sym}
 use Rattle.wf_parse_grammar.specs.declared.symbols.Sym.TheVariants as syms
-use Rattle.wf_parse_grammar.specs.Machine.{Move, Take, Begin, Enter, Pass, Stop, move, may_end}
+use Rattle.wf_parse_grammar.specs.Machine.{Take}
 use Rattle.wf_parse_grammar.specs.Feeding.{fed, feed, feeds, go_on}
 use Rattle.wf_parse_grammar.proofs.OpLemmas.{eq-self}
-use Rattle.wf_parse_grammar.proofs.Forward.{type_tail, expr_tail, ends_expr, ends_operand, drop-expr, drop-type, over, Starts, swapped, to-token, from, while-expr, result-expr, fw-expr, fw-givens, fw-type}
+use Rattle.wf_parse_grammar.proofs.Forward.{type_tail, expr_tail, ends_expr, drop-expr, drop-type, over, Starts, swapped, to-token, from, while-expr, result-expr, fw-expr, fw-givens, fw-type}
 
 -- What may still go on after a statement.
 abbrev else_tail : ElseForm → List Sym → List Sym
@@ -67,11 +67,6 @@ ends-expr : (t : Kind) → ends_stmt t ≡ true → ends_expr t ≡ true
 ends-expr kinds.Semicolon h = refl
 ends-expr kinds.CloseCurly h = refl
 ends-expr _ h = absurd (cc h)
-
-ends-operand : (t : Kind) → ends_stmt t ≡ true → ends_operand t ≡ true
-ends-operand kinds.Semicolon h = refl
-ends-operand kinds.CloseCurly h = refl
-ends-operand _ h = absurd (cc h)
 
 drop-else : (k : List Sym) (t : Kind) → ends_stmt t ≡ true → feed (syms.Else ∷ k) t ≡ feed k t
 drop-else k kinds.Semicolon h = refl

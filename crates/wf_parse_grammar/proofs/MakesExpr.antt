@@ -6,7 +6,7 @@ use Rattle.wf_ast.specs.declared.operators.Op.{Op}
 use Rattle.wf_ast.specs.declared.parsed.Name.{Name}
 use Rattle.wf_ast.specs.declared.parsed.Path.{Path}
 use Rattle.wf_ast.specs.ParsedTree as tree
-use Rattle.wf_ast.specs.ParsedTree.{ExprTree, PartTree, LinkTrees, GivenTrees, TypeTree, BoundsTree, DeclTree}
+use Rattle.wf_ast.specs.ParsedTree.{ExprTree, PartTree, TypeTree, DeclTree}
 use Rattle.wf_ast.specs.Operators.{same_op, op_number}
 use Rattle.wf_parse_grammar.specs.declared.tokens.Kind.TheVariants as kinds
 use Rattle.wf_parse_grammar.specs.declared.tokens.Token.{Token}
@@ -20,7 +20,7 @@ use Rattle.wf_parse_grammar.specs.Grammar.{AtomForm, ANumber, AText, ABaseText, 
 use Rattle.wf_parse_grammar.specs.Grammar.{GivensForm, NoGiven, FirstGiven, MoreGivensForm, LastGiven, GivenComma, NextGiven, TypeForm, BaseType, StatusType, SliceType, ArrayType, StructType, BoundsForm, NoBounds, Bounds}
 use Rattle.wf_parse_grammar.specs.Grammar.{expr_before, links_before, operand_before, atom_before, givens_before, more_givens_before, type_before, bounds_before}
 use Rattle.wf_parse_grammar.specs.Meaning as means
-use Rattle.wf_parse_grammar.specs.Meaning.{path_tree, on_tree, mark_part_tree, expr_tree, operand_tree, atom_tree, part_tree, type_tree, bounds_tree}
+use Rattle.wf_parse_grammar.specs.Meaning.{path_tree, on_tree, mark_part_tree, expr_tree, operand_tree, atom_tree, type_tree, bounds_tree}
 use Rattle.wf_parse_grammar.specs.Building.{Take, wrong_mix, skipped}
 use Rattle.wf_parse_grammar.specs.Values.{Val, name, place, mark, path, receiver, expr, part, chain, givens, prefixes, core, bounds, type, LinkVal, GivenVal, PrefixVal, slice_prefix, array_prefix, base_core, status_core, Made, link_trees, given_trees, prefixed, all_prefixed}
 use Rattle.wf_parse_grammar.proofs.OpLemmas.{eq-self}

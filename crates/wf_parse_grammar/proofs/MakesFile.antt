@@ -2,7 +2,7 @@
 use Rattle.std.proofs.Common.{◌≡◌, ◌∙◌, ap, sym, List, [], ◌∷◌, ◌++◌, refl, append_assoc, append-nil}
 use Rattle.wf_text.specs.declared.place.Place.{Place}
 use Rattle.wf_ast.specs.ParsedTree as tree
-use Rattle.wf_ast.specs.ParsedTree.{TypeTree, StmtTree, BlockTree, FieldTrees, ResultTree, DeclTree}
+use Rattle.wf_ast.specs.ParsedTree.{StmtTree, DeclTree}
 use Rattle.wf_parse_grammar.specs.declared.tokens.Kind.TheVariants as kinds
 use Rattle.wf_parse_grammar.specs.declared.tokens.Token.{Token}
 use Rattle.wf_parse_grammar.specs.declared.symbols.Sym.TheVariants as syms
@@ -14,7 +14,7 @@ use Rattle.wf_parse_grammar.specs.Grammar.{AVar}
 use Rattle.wf_parse_grammar.specs.Grammar.{VarsForm, NoVars, FirstVar, FirstStmt, MoreVarsForm, LastVar, VarSemicolon, NextVar, ThenStmt, FieldsForm, NoField, FirstField, MoreFieldsForm, LastField, FieldComma, NextField, OtherFieldsForm, NoOtherFields, OtherFields, TypePart, NoType, AType, IsPub, IsPri, DeclForm, AStatus, AConst, AStruct, AFunc, FileForm, NoDecl, ADecl}
 use Rattle.wf_parse_grammar.specs.Grammar.{mark_part_before, expr_before, more_items_before, more_vars_before, vars_before, more_fields_before, fields_before, other_fields_before, type_part_before, decl_before, file_before}
 use Rattle.wf_parse_grammar.specs.Meaning as means
-use Rattle.wf_parse_grammar.specs.Meaning.{mark_part_tree, expr_tree, type_tree, stmt_tree, var_tree, more_items_tree, more_vars_tree, vars_tree, more_field_trees, other_field_trees, type_part_tree, is_public, decl_tree, file_trees}
+use Rattle.wf_parse_grammar.specs.Meaning.{mark_part_tree, type_tree, stmt_tree, var_tree, more_vars_tree, vars_tree, more_field_trees, other_field_trees, type_part_tree, is_public, decl_tree, file_trees}
 use Rattle.wf_parse_grammar.specs.Values.{Val, name, place, mark, public, type, prefixes, items, block, fields, result, FieldVal, field_trees, block_tree}
 use Rattle.wf_parse_grammar.proofs.Forward.{ends_operand}
 use Rattle.wf_parse_grammar.proofs.ForwardMore.{begins_type, type-first}

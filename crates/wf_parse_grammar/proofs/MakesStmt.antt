@@ -4,7 +4,7 @@ use Rattle.wf_text.specs.declared.place.Place.{Place}
 use Rattle.wf_ast.specs.declared.numbers.TextId.{TextId}
 use Rattle.wf_ast.specs.declared.parsed.Clause.TheVariants as clause_kinds
 use Rattle.wf_ast.specs.ParsedTree as tree
-use Rattle.wf_ast.specs.ParsedTree.{ExprTree, TypeTree, TargetTree, ClauseTrees, StmtTree, BlockTree, ArmTrees, DeclTree}
+use Rattle.wf_ast.specs.ParsedTree.{TargetTree, StmtTree, BlockTree, DeclTree}
 use Rattle.wf_parse_grammar.specs.declared.tokens.Kind.{Kind}
 use Rattle.wf_parse_grammar.specs.declared.tokens.Kind.TheVariants as kinds
 use Rattle.wf_parse_grammar.specs.declared.tokens.Token.{Token}
@@ -19,7 +19,7 @@ use Rattle.wf_parse_grammar.specs.Grammar.{ToPath, ToElement, SignForm, Becomes,
 use Rattle.wf_parse_grammar.specs.Grammar.{StmtForm, Assignment, Keeping, Calling, Branching, Looping, Labelled, Breaking, Continuing, Returning, Yielding, Asserting, ElseForm, NoElse, ElseIf, Else, ABlock, ItemsForm, NoItem, FirstItem, MoreItemsForm, LastItem, ItemSemicolon, NextItem}
 use Rattle.wf_parse_grammar.specs.Grammar.{expr_before, sign_before, call_before, clauses_before, end_before, via_before, stmt_before, else_before, items_before, more_items_before}
 use Rattle.wf_parse_grammar.specs.Meaning as means
-use Rattle.wf_parse_grammar.specs.Meaning.{path_tree, on_tree, mark_tree, expr_tree, target_tree, target_start, sign_op, sign_place, call_tree, call_start, label_tree, stmt_tree, items_tree, more_items_tree}
+use Rattle.wf_parse_grammar.specs.Meaning.{path_tree, on_tree, mark_tree, expr_tree, target_tree, target_start, sign_op, sign_place, call_tree, call_start, stmt_tree, items_tree, more_items_tree}
 use Rattle.wf_parse_grammar.specs.Building.{Take, stmt_build, wrong}
 use Rattle.wf_parse_grammar.specs.Values.{Val, name, place, mark, sign, path, receiver, expr, call, items, block, stmt, target, arms, otherwise, clauses, ArmVal, ClauseVal, Made, clause_trees, block_tree, else_tree, arm_trees}
 use Rattle.wf_parse_grammar.proofs.OpLemmas.{eq-self}

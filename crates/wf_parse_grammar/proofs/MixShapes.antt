@@ -10,7 +10,7 @@ use Rattle.wf_parse_grammar.specs.declared.tokens.Kind.TheVariants as kinds
 use Rattle.wf_parse_grammar.specs.declared.symbols.Sym.{Sym}
 use Rattle.wf_parse_grammar.specs.declared.symbols.Sym.TheVariants as syms
 use Rattle.wf_parse_grammar.specs.Machine as m
-use Rattle.wf_parse_grammar.specs.Machine.{Move, Take, Begin, Enter, Pass, Stop, move}
+use Rattle.wf_parse_grammar.specs.Machine.{Move, Take, Begin, Enter, Pass, Stop}
 
 -- All symbols but those that stand after an operand or an operation.
 abbrev pub is_plain : Sym → Bool

@@ -12,7 +12,7 @@ use Rattle.wf_parse_grammar.specs.declared.symbols.Sym.{Sym}
 use Rattle.wf_parse_grammar.specs.declared.symbols.Sym.TheVariants as syms
 use Rattle.wf_parse_grammar.specs.Grammar.{token, Pair, Chained, Converted, LinksForm, NoLink, Link, OperandForm, expr_before, links_before, operand_before, type_before}
 use Rattle.wf_parse_grammar.specs.Machine as m
-use Rattle.wf_parse_grammar.specs.Machine.{Move, Take, Begin, Enter, Pass, Stop, move, may_end, opens, open_count}
+use Rattle.wf_parse_grammar.specs.Machine.{Move, Take, Begin, Enter, Pass, Stop, move, may_end}
 use Rattle.wf_parse_grammar.specs.Words.{Word, Words}
 use Rattle.wf_parse_grammar.specs.Refusals.{is_operator, EndsInOperation}
 use Rattle.wf_parse_grammar.specs.Feeding.{fed, feed, feeds, go_on}

@@ -210,16 +210,6 @@ fresh-start syms.Items h = refl
 fresh-start syms.Vars h = refl
 fresh-start _ h = absurd (cc h)
 
-pub body-head : (s : Sym) → is_body s ≡ true → is_head s ≡ false
-body-head syms.MethodTail h = absurd (cc h)
-body-head syms.Body h = absurd (cc h)
-body-head _ h = refl
-
-pub passing-fresh : (s : Sym) → may_end s ≡ true → is_fresh s ≡ false
-passing-fresh syms.Items h = absurd (cc h)
-passing-fresh syms.Vars h = absurd (cc h)
-passing-fresh _ h = refl
-
 pub passing-head : (s : Sym) → may_end s ≡ true → is_head s ≡ false
 passing-head syms.MethodTail h = absurd (cc h)
 passing-head syms.Body h = absurd (cc h)

@@ -1,6 +1,6 @@
 -- Wanted things as the table tells them: a few actions with what the token says, a list of the table, and perhaps a symbol
 -- that carries a name or an operator.
-use Rattle.std.specs.Prelude.{Option, None, Some, List, [], ◌∷◌}
+use Rattle.std.specs.Prelude.{Option, None, Some, List, ◌∷◌}
 use Rattle.wf_parse_grammar.specs.declared.symbols.Action.TheVariants as does
 use Rattle.wf_parse_grammar.specs.declared.symbols.Sym.{Sym}
 use Rattle.wf_parse_grammar.specs.declared.symbols.Want.{Want}

@@ -1,6 +1,6 @@
 // The laws of the grammar and its machine. Each is the contract of a function that does nothing.
 
-ghost use Rattle.std.specs.Prelude.{◌≡◌, ℕ, Bool, true, false, List, [], ◌∷◌, ◌++◌, Option, Some};
+ghost use Rattle.std.specs.Prelude.{◌≡◌, ℕ, Bool, true, false, List, [], ◌∷◌, ◌++◌, Some};
 ghost use Rattle.wf_parse_grammar.specs.declared.tokens.Token.{Token};
 ghost use Rattle.wf_parse_grammar.specs.declared.symbols.Sym.{Sym};
 ghost use Rattle.wf_parse_grammar.specs.declared.symbols.Sym.TheVariants.{File};

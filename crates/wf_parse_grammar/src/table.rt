@@ -1,6 +1,6 @@
 // The table of the grammar's machine: for each symbol, what the next token does to it.
 
-ghost use Rattle.std.specs.Prelude.{◌≡◌, List};
+ghost use Rattle.std.specs.Prelude.{◌≡◌};
 ghost use Rattle.wf_parse_grammar.specs.Building.{build, skips};
 ghost use Rattle.wf_parse_grammar.specs.Machine.{may_end, owes, opens};
 

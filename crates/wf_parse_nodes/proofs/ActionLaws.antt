@@ -4,7 +4,7 @@ use Rattle.wf_ast.specs.ParsedTree.{ExprTree, StmtTree, DeclTree}
 use Rattle.wf_parse_grammar.specs.declared.symbols.Action.{Action}
 use Rattle.wf_parse_grammar.specs.declared.symbols.Action.TheVariants as does
 use Rattle.wf_parse_grammar.specs.Values.{perform}
-use Rattle.wf_parse_nodes.specs.declared.values.Value.{Value}
+use Rattle.wf_parse_nodes.specs.declared.values.SemanticValue.{SemanticValue}
 use Rattle.wf_parse_nodes.specs.Making.{making}
 use Rattle.wf_parse_nodes.specs.Seen.{seen_values, ValuesBelow, ProductParts, made_with}
 use Rattle.wf_parse_nodes.specs.Shapes.{fits, takes}
@@ -17,7 +17,7 @@ use Rattle.wf_parse_nodes.proofs.StmtMaking as stmtmaking
 use Rattle.wf_parse_nodes.proofs.BranchMaking as branchmaking
 use Rattle.wf_parse_nodes.proofs.DeclMaking as declmaking
 
-pub action-made : (es : List ExprTree) (ss : List StmtTree) (ds : List DeclTree) (a : Action) (vs : List Value) → (if fits (takes a) vs then made_with es ss (making a vs).product (seen_values es ss (making a vs).vals) ds else record { vals = []; decls = ds }) ≡ perform a (record { vals = seen_values es ss vs; decls = ds })
+pub action-made : (es : List ExprTree) (ss : List StmtTree) (ds : List DeclTree) (a : Action) (vs : List SemanticValue) → (if fits (takes a) vs then made_with es ss (making a vs).product (seen_values es ss (making a vs).vals) ds else record { vals = []; decls = ds }) ≡ perform a (record { vals = seen_values es ss vs; decls = ds })
 action-made es ss ds (does.PushName name) vs = plainmaking.push_name-made es ss ds name vs
 action-made es ss ds (does.PushPlace at) vs = plainmaking.push_place-made es ss ds at vs
 action-made es ss ds (does.PushMark mark) vs = plainmaking.push_mark-made es ss ds mark vs
@@ -92,7 +92,7 @@ action-made es ss ds does.ConstDecl vs = declmaking.const_decl-made es ss ds vs
 action-made es ss ds does.StructDecl vs = declmaking.struct_decl-made es ss ds vs
 action-made es ss ds does.MethodDecl vs = declmaking.method_decl-made es ss ds vs
 
-pub action-below : (e k : ℕ) (a : Action) (vs : List Value) → fits (takes a) vs ≡ true → ValuesBelow e k vs → ProductParts e k (making a vs).product × ValuesBelow e k (making a vs).vals
+pub action-below : (e k : ℕ) (a : Action) (vs : List SemanticValue) → fits (takes a) vs ≡ true → ValuesBelow e k vs → ProductParts e k (making a vs).product × ValuesBelow e k (making a vs).vals
 action-below e k (does.PushName name) vs f h = plainmaking.push_name-below e k name vs f h
 action-below e k (does.PushPlace at) vs f h = plainmaking.push_place-below e k at vs f h
 action-below e k (does.PushMark mark) vs f h = plainmaking.push_mark-below e k mark vs f h

@@ -19,12 +19,12 @@ use Rattle.wf_ast.specs.declared.parsed.Target.TheVariants as targets
 use Rattle.wf_ast.specs.declared.parsed.TypeExpr.{TypeExpr}
 use Rattle.wf_ast.specs.declared.parsed.Via.{Via}
 use Rattle.wf_ast.specs.ParsedTree as tree
-use Rattle.wf_ast.specs.ParsedTree.{ExprTree, StmtTree, ArmTrees, ClauseTrees, FieldTrees, DeclTree}
+use Rattle.wf_ast.specs.ParsedTree.{ExprTree, StmtTree, ArmTrees}
 use Rattle.wf_ast.specs.ParsedTrees.{expr_at, target_at, clauses_at, via_at, stmt_at, block_at, arms_at, stmt_made, stmts_after, fields_at, result_at, decl_made, decls_made}
 use Rattle.wf_ast.specs.ParsedParts.{TargetBelow, ViaBelow, BlockBelow, ElseBelow, StmtParts, StmtsOrdered, FieldsBelow, ResultBelow, DeclParts, PrefixBelow}
 use Rattle.wf_ast.proofs.TreeLemmas.{Agree, expr_at-same, part_at-same, given_at-same, bounds_at-same, type_at-same, items_at-same, IsBelow-more, GivenBelow-more, PrefixBelow-more, BoundsBelow-more, TypeBelow-more, TargetBelow-more, ViaBelow-more, FieldsBelow-more, ResultBelow-more, BlockBelow-more, all_map}
-use Rattle.wf_parse_nodes.specs.declared.values.Value.{Value}
-use Rattle.wf_parse_nodes.specs.declared.values.Value.TheVariants as vals
+use Rattle.wf_parse_nodes.specs.declared.values.SemanticValue.{SemanticValue}
+use Rattle.wf_parse_nodes.specs.declared.values.SemanticValue.TheVariants as vals
 use Rattle.wf_parse_grammar.specs.Values as val
 use Rattle.wf_parse_nodes.specs.Seen.{seen_link, seen_given, seen_prefix, seen_arm, seen_clause, seen_field, seen_otherwise, seen_value, seen_values, ValueBelow, ValuesBelow}
 
@@ -66,7 +66,7 @@ module _ (e k : ℕ) (es fs : List ExprTree) (ts us : List StmtTree) (a : Agree 
   fields_same [] h = refl
   fields_same (x ∷ xs) h = let p = type_at-same e es fs a x.of h.0 in let q = fields_same xs h.1 in cc
 
-  pub value_same : (v : Value) → ValueBelow e k v → seen_value es ts v ≡ seen_value fs us v
+  pub value_same : (v : SemanticValue) → ValueBelow e k v → seen_value es ts v ≡ seen_value fs us v
   value_same (vals.Name n) h = refl
   value_same (vals.Place p) h = refl
   value_same (vals.Mark m) h = refl
@@ -101,7 +101,7 @@ module _ (e k : ℕ) (es fs : List ExprTree) (ts us : List StmtTree) (a : Agree 
       ap val.fields (map_same _ (seen_field es) (seen_field fs) (λ x m. ap (λ t. let field : val.FieldVal = record { name = x.name; of = t } in field) (type_at-same e es fs a x.of m)) xs h)
   value_same (vals.Result t) h = ap val.result (result_same t h)
 
-  pub values_same : (vs : List Value) → ValuesBelow e k vs → seen_values es ts vs ≡ seen_values fs us vs
+  pub values_same : (vs : List SemanticValue) → ValuesBelow e k vs → seen_values es ts vs ≡ seen_values fs us vs
   values_same [] h = refl
   values_same (v ∷ vs) h = let p = value_same v h.0 in let q = values_same vs h.1 in cc
 
@@ -150,7 +150,7 @@ module _ (e : ℕ) (es fs : List ExprTree) (a : Agree e es fs) where
 
 -- What is below a number is below a larger one.
 module _ (e f k l : ℕ) (m : e ≤ f) (n : k ≤ l) where
-  value_more : (v : Value) → ValueBelow e k v → ValueBelow f l v
+  value_more : (v : SemanticValue) → ValueBelow e k v → ValueBelow f l v
   value_more (vals.Name x) h = tt
   value_more (vals.Place p) h = tt
   value_more (vals.Mark x) h = tt
@@ -180,5 +180,5 @@ module _ (e f k l : ℕ) (m : e ≤ f) (n : k ≤ l) where
   value_more (vals.Fields xs) h = FieldsBelow-more e f m xs h
   value_more (vals.Result t) h = ResultBelow-more e f m t h
 
-  pub values_more : (vs : List Value) → ValuesBelow e k vs → ValuesBelow f l vs
+  pub values_more : (vs : List SemanticValue) → ValuesBelow e k vs → ValuesBelow f l vs
   values_more vs h = all_map (ValueBelow e k) (ValueBelow f l) value_more vs h

@@ -13,8 +13,8 @@ use Rattle.wf_parse_grammar.specs.Values.{Made, perform}
 use Rattle.wf_parse_nodes.specs.Products.{Product}
 use Rattle.wf_parse_nodes.specs.Products as makes
 use Rattle.wf_parse_nodes.specs.declared.shapes.Shape.{Shape}
-use Rattle.wf_parse_nodes.specs.declared.values.Value.{Value}
-use Rattle.wf_parse_nodes.specs.declared.values.Value.TheVariants as vals
+use Rattle.wf_parse_nodes.specs.declared.values.SemanticValue.{SemanticValue}
+use Rattle.wf_parse_nodes.specs.declared.values.SemanticValue.TheVariants as vals
 use Rattle.wf_parse_nodes.specs.declared.maker.Maker.{Maker}
 use Rattle.wf_parse_nodes.specs.Makers.{IsSound}
 use Rattle.wf_parse_nodes.specs.Making.{Making, making}
@@ -27,7 +27,7 @@ use Rattle.wf_parse_nodes.proofs.Putting as putting
 abbrev pub put_on : Maker → Product → Made
 put_on old product = made_with (expr_trees old.package.exprs) (stmt_trees old.package.exprs old.package.stmts) product (seen_values (expr_trees old.package.exprs) (stmt_trees old.package.exprs old.package.stmts) old.values) (decl_trees old.package.exprs old.package.stmts old.package.decls)
 
-module _ (old : Maker) (sound : IsSound old) (product : Product) (q : Parsed) (ws : List Value) where
+module _ (old : Maker) (sound : IsSound old) (product : Product) (q : Parsed) (ws : List SemanticValue) where
   pub expr_put : (n : ExprNode) (x : ExprId) → product ≡ makes.Expr n → x.0 ≡ length old.package.exprs → q ≡ record old.package { exprs = old.package.exprs ++ n ∷ [] } → ws ≡ vals.Expr x ∷ old.values → made_of q ws ≡ put_on old product
   expr_put n x is number e f =
       let there = putting.expr_put old.package n old.values sound.ordered sound.below x number in
@@ -49,7 +49,7 @@ module _ (old new : Maker) (sound : IsSound old) (product : Product) (parts : Pr
       let its : ExprParts (length old.package.exprs) n.expr = let P : Product → Type 0 = ProductParts (length old.package.exprs) (length old.package.stmts) in subst P is parts in
       let P : Parsed → Type 0 = IsOrdered in
       let Q : Parsed → Type 0 = λ p. AreOf p new.values in
-      let R : List Value → Type 0 = AreOf (record old.package { exprs = old.package.exprs ++ n ∷ [] }) in
+      let R : List SemanticValue → Type 0 = AreOf (record old.package { exprs = old.package.exprs ++ n ∷ [] }) in
       record {
         ordered = subst P (sym e) (putting.expr_ordered old.package n old.values sound.ordered sound.below x number its);
         below = subst Q (sym e) (subst R (sym f) (putting.expr_of old.package n old.values sound.ordered sound.below x number));
@@ -60,7 +60,7 @@ module _ (old new : Maker) (sound : IsSound old) (product : Product) (parts : Pr
       let its : StmtParts (length old.package.exprs) (length old.package.stmts) n.stmt = let P : Product → Type 0 = ProductParts (length old.package.exprs) (length old.package.stmts) in subst P is parts in
       let P : Parsed → Type 0 = IsOrdered in
       let Q : Parsed → Type 0 = λ p. AreOf p new.values in
-      let R : List Value → Type 0 = AreOf (record old.package { stmts = old.package.stmts ++ n ∷ [] }) in
+      let R : List SemanticValue → Type 0 = AreOf (record old.package { stmts = old.package.stmts ++ n ∷ [] }) in
       record {
         ordered = subst P (sym e) (putting.stmt_ordered old.package n old.values sound.ordered sound.below x number its);
         below = subst Q (sym e) (subst R (sym f) (putting.stmt_of old.package n old.values sound.ordered sound.below x number));
@@ -71,14 +71,14 @@ module _ (old new : Maker) (sound : IsSound old) (product : Product) (parts : Pr
       let its : DeclParts (length old.package.exprs) (length old.package.stmts) n.decl = let P : Product → Type 0 = ProductParts (length old.package.exprs) (length old.package.stmts) in subst P is parts in
       let P : Parsed → Type 0 = IsOrdered in
       let Q : Parsed → Type 0 = λ p. AreOf p new.values in
-      let R : List Value → Type 0 = AreOf (record old.package { decls = old.package.decls ++ n ∷ [] }) in
+      let R : List SemanticValue → Type 0 = AreOf (record old.package { decls = old.package.decls ++ n ∷ [] }) in
       record {
         ordered = subst P (sym e) (putting.decl_ordered old.package n old.values sound.ordered its);
         below = subst Q (sym e) (subst R (sym f) sound.below);
       }
 
 -- An action whose values don't stand there.
-pub misfit_performed : (p : Parsed) (vs ws : List Value) (a : Action) (shapes : List Shape) (fit : Bool) → shapes ≡ takes a → fit ≡ fits shapes vs → fit ≡ false → ws ≡ []
+pub misfit_performed : (p : Parsed) (vs ws : List SemanticValue) (a : Action) (shapes : List Shape) (fit : Bool) → shapes ≡ takes a → fit ≡ fits shapes vs → fit ≡ false → ws ≡ []
     → made_of p ws ≡ perform a (made_of p vs)
 misfit_performed p vs ws a shapes fit s f not_there w =
     let es = expr_trees p.exprs in
@@ -88,7 +88,7 @@ misfit_performed p vs ws a shapes fit s f not_there w =
     rw w (rw none at law)
 
 -- An action that fits: what it makes, put on what it leaves.
-module _ (old : Maker) (a : Action) (fit : fits (takes a) old.values ≡ true) (product : Product) (ws : List Value) (e : let m : Making = record { product = product; vals = ws } in making a old.values ≡ m) where
+module _ (old : Maker) (a : Action) (fit : fits (takes a) old.values ≡ true) (product : Product) (ws : List SemanticValue) (e : let m : Making = record { product = product; vals = ws } in making a old.values ≡ m) where
   pub fit_performed : put_on (record old { values = ws }) product ≡ perform a (made_of old.package old.values)
   fit_performed =
       let es = expr_trees old.package.exprs in
@@ -108,7 +108,7 @@ module _ (old : Maker) (a : Action) (fit : fits (takes a) old.values ≡ true) (
   fit_sound sound = record { ordered = sound.ordered; below = (fit_below sound.below).1 }
 
 -- An action that pushes finds whatever it takes, which is nothing.
-push_fits : (a : Action) (vs : List Value) → pushes a ≡ true → fits (takes a) vs ≡ true
+push_fits : (a : Action) (vs : List SemanticValue) → pushes a ≡ true → fits (takes a) vs ≡ true
 push_fits (does.PushName _) vs h = refl
 push_fits (does.PushPlace _) vs h = refl
 push_fits (does.PushMark _) vs h = refl
@@ -129,7 +129,7 @@ push_fits does.StartFields vs h = refl
 push_fits _ vs h = absurd (cc h)
 
 -- What such an action pushes, put on what was there.
-module _ (old : Maker) (a : Action) (v : Value) (h : pushes a ≡ true) (e : (vs : List Value) → let pushed : Making = record { product = makes.Value v; vals = vs } in making a vs ≡ pushed) where
+module _ (old : Maker) (a : Action) (v : SemanticValue) (h : pushes a ≡ true) (e : (vs : List SemanticValue) → let pushed : Making = record { product = makes.Value v; vals = vs } in making a vs ≡ pushed) where
   pub push_performed : put_on old (makes.Value v) ≡ perform a (made_of old.package old.values)
   push_performed = fit_performed old a (push_fits a old.values h) (makes.Value v) old.values (e old.values)
 

@@ -11,10 +11,10 @@ use Rattle.wf_ast.specs.ParsedTrees.{expr_or, stmt_or, expr_made, exprs_after, e
 use Rattle.wf_ast.specs.ParsedParts.{Parsed, ExprParts, StmtParts, DeclParts}
 use Rattle.wf_ast.proofs.TreeLemmas.{Agree, all_map, all_push, slice_get-front, slice_get-seam, stmts_push, StmtsOrdered-more, DeclParts-more}
 use Rattle.wf_parse_grammar.specs.Values as val
-use Rattle.wf_parse_grammar.specs.Values.{Made, Val}
+use Rattle.wf_parse_grammar.specs.Values.{Made}
 use Rattle.wf_parse_nodes.specs.Products as makes
-use Rattle.wf_parse_nodes.specs.declared.values.Value.{Value}
-use Rattle.wf_parse_nodes.specs.declared.values.Value.TheVariants as vals
+use Rattle.wf_parse_nodes.specs.declared.values.SemanticValue.{SemanticValue}
+use Rattle.wf_parse_nodes.specs.declared.values.SemanticValue.TheVariants as vals
 use Rattle.wf_parse_nodes.specs.Seen.{seen_values, AreOf, made_of, made_with, IsOrdered}
 use Rattle.wf_parse_nodes.proofs.Growth.{values_same, decls_same, stmts_exprs, values_more}
 
@@ -52,7 +52,7 @@ seam_at : {X : Type 0} (xs : List X) (y : X) (k : ℕ) → k ≡ length xs → s
 seam_at xs y k e = ap (slice_get (xs ++ y ∷ [])) e ∙ slice_get-seam xs y []
 
 -- One expression more.
-module _ (p : Parsed) (n : ExprNode) (vs : List Value) (o : IsOrdered p) (b : AreOf p vs) (x : ExprId) (is : x.0 ≡ length p.exprs) where
+module _ (p : Parsed) (n : ExprNode) (vs : List SemanticValue) (o : IsOrdered p) (b : AreOf p vs) (x : ExprId) (is : x.0 ≡ length p.exprs) where
   pub expr_put : made_of (record p { exprs = p.exprs ++ n ∷ [] }) (vals.Expr x ∷ vs) ≡ made_with (expr_trees p.exprs) (stmt_trees p.exprs p.stmts) (makes.Expr n) (seen_values (expr_trees p.exprs) (stmt_trees p.exprs p.stmts) vs) (decl_trees p.exprs p.stmts p.decls)
   unfolding expr_trees stmt_trees decl_trees
   expr_put =
@@ -92,7 +92,7 @@ module _ (p : Parsed) (n : ExprNode) (vs : List Value) (o : IsOrdered p) (b : Ar
       (here, values_more (length p.exprs) (length longer) (length p.stmts) (length p.stmts) more (omega arith) vs b)
 
 -- One statement more.
-module _ (p : Parsed) (n : StmtNode) (vs : List Value) (o : IsOrdered p) (b : AreOf p vs) (x : StmtId) (is : x.0 ≡ length p.stmts) where
+module _ (p : Parsed) (n : StmtNode) (vs : List SemanticValue) (o : IsOrdered p) (b : AreOf p vs) (x : StmtId) (is : x.0 ≡ length p.stmts) where
   pub stmt_put : made_of (record p { stmts = p.stmts ++ n ∷ [] }) (vals.Stmt x ∷ vs) ≡ made_with (expr_trees p.exprs) (stmt_trees p.exprs p.stmts) (makes.Stmt n) (seen_values (expr_trees p.exprs) (stmt_trees p.exprs p.stmts) vs) (decl_trees p.exprs p.stmts p.decls)
   unfolding stmt_trees decl_trees
   stmt_put =
@@ -133,7 +133,7 @@ module _ (p : Parsed) (n : StmtNode) (vs : List Value) (o : IsOrdered p) (b : Ar
       (here, values_more (length p.exprs) (length p.exprs) (length p.stmts) (length longer) (omega arith) more vs b)
 
 -- One declaration more.
-module _ (p : Parsed) (d : DeclNode) (vs : List Value) (o : IsOrdered p) where
+module _ (p : Parsed) (d : DeclNode) (vs : List SemanticValue) (o : IsOrdered p) where
   pub decl_put : made_of (record p { decls = p.decls ++ d ∷ [] }) vs ≡ made_with (expr_trees p.exprs) (stmt_trees p.exprs p.stmts) (makes.Decl d) (seen_values (expr_trees p.exprs) (stmt_trees p.exprs p.stmts) vs) (decl_trees p.exprs p.stmts p.decls)
   unfolding decl_trees
   decl_put = ap (λ ds. let made : Made = record { vals = seen_values (expr_trees p.exprs) (stmt_trees p.exprs p.stmts) vs; decls = ds } in made) (decls_made-push (expr_trees p.exprs) (stmt_trees p.exprs p.stmts) p.decls d)

@@ -19,32 +19,32 @@ use Rattle.wf_parse_nodes.specs.Products.{Product}
 use Rattle.wf_parse_nodes.specs.Products as makes
 use Rattle.wf_parse_nodes.specs.declared.values.OpenCore.{OpenCore}
 use Rattle.wf_parse_nodes.specs.declared.values.OpenCore.TheVariants as open_cores
-use Rattle.wf_parse_nodes.specs.declared.values.Value.{Value}
-use Rattle.wf_parse_nodes.specs.declared.values.Value.TheVariants as vals
+use Rattle.wf_parse_nodes.specs.declared.values.SemanticValue.{SemanticValue}
+use Rattle.wf_parse_nodes.specs.declared.values.SemanticValue.TheVariants as vals
 
 -- What is made, and the values that are left below it.
 pub record Making : Type 0 where
   pub product : Product
-  pub vals : List Value
+  pub vals : List SemanticValue
 
 abbrev pub closed_core : OpenCore → Core
 closed_core (open_cores.Base name at) = cores.Base name at
 closed_core (open_cores.Status at) = cores.BaseStatus at
 
-abbrev pub a_value : Value → List Value → Making
+abbrev pub a_value : SemanticValue → List SemanticValue → Making
 a_value v vs = record { product = makes.Value v; vals = vs }
 
-abbrev pub an_expr : Expr → Place → List Value → Making
+abbrev pub an_expr : Expr → Place → List SemanticValue → Making
 an_expr e at vs = record { product = makes.Expr (record { expr = e; at = at }); vals = vs }
 
-abbrev pub a_stmt : Stmt → Place → List Value → Making
+abbrev pub a_stmt : Stmt → Place → List SemanticValue → Making
 a_stmt s at vs = record { product = makes.Stmt (record { stmt = s; at = at }); vals = vs }
 
-abbrev pub a_decl : Bool → Decl → Place → List Value → Making
+abbrev pub a_decl : Bool → Decl → Place → List SemanticValue → Making
 a_decl public d at vs = record { product = makes.Decl (record { public = public; decl = d; at = at }); vals = vs }
 
 -- Where the topmost values don't fit the action, this stands for nothing.
-abbrev pub making : Action → List Value → Making
+abbrev pub making : Action → List SemanticValue → Making
 making (does.PushName name) vs = a_value (vals.Name name) vs
 making (does.PushPlace at) vs = a_value (vals.Place at) vs
 making (does.PushMark mark) vs = a_value (vals.Mark mark) vs

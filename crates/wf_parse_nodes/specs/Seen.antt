@@ -18,8 +18,8 @@ use Rattle.wf_parse_nodes.specs.Products.{Product}
 use Rattle.wf_parse_nodes.specs.Products as makes
 use Rattle.wf_parse_nodes.specs.declared.values.OpenCore.{OpenCore}
 use Rattle.wf_parse_nodes.specs.declared.values.OpenCore.TheVariants as open_cores
-use Rattle.wf_parse_nodes.specs.declared.values.Value.{Value}
-use Rattle.wf_parse_nodes.specs.declared.values.Value.TheVariants as vals
+use Rattle.wf_parse_nodes.specs.declared.values.SemanticValue.{SemanticValue}
+use Rattle.wf_parse_nodes.specs.declared.values.SemanticValue.TheVariants as vals
 
 -- `es` are the trees of the package's expressions, `ss` those of its statements.
 abbrev pub seen_link : List ExprTree → Link → LinkVal
@@ -49,7 +49,7 @@ abbrev pub seen_otherwise : List StmtTree → Option Block → Option BlockTree
 seen_otherwise ss None = None
 seen_otherwise ss (Some b) = Some (block_at ss b)
 
-abbrev pub seen_value : List ExprTree → List StmtTree → Value → Val
+abbrev pub seen_value : List ExprTree → List StmtTree → SemanticValue → Val
 seen_value es ss (vals.Name n) = val.name n
 seen_value es ss (vals.Place p) = val.place p
 seen_value es ss (vals.Mark m) = val.mark m
@@ -78,16 +78,16 @@ seen_value es ss (vals.Via v) = val.via (via_at es v)
 seen_value es ss (vals.Fields fs) = val.fields (map (seen_field es) fs)
 seen_value es ss (vals.Result t) = val.result (result_at es t)
 
-abbrev pub seen_values : List ExprTree → List StmtTree → List Value → List Val
+abbrev pub seen_values : List ExprTree → List StmtTree → List SemanticValue → List Val
 seen_values es ss [] = []
 seen_values es ss (v ∷ vs) = seen_value es ss v ∷ seen_values es ss vs
 
 -- What stands in a package and on the stack.
-abbrev pub made_of : Parsed → List Value → Made
+abbrev pub made_of : Parsed → List SemanticValue → Made
 made_of p vs = record { vals = seen_values (expr_trees p.exprs) (stmt_trees p.exprs p.stmts) vs; decls = decl_trees p.exprs p.stmts p.decls }
 
 -- A value names expressions below `e` and statements below `k`.
-abbrev pub ValueBelow : ℕ → ℕ → Value → Type 0
+abbrev pub ValueBelow : ℕ → ℕ → SemanticValue → Type 0
 ValueBelow e k (vals.Expr x) = x.0 < e
 ValueBelow e k (vals.Part x) = IsBelow e x
 ValueBelow e k (vals.Chain c) = (c.first.0 < e) × LinksBelow e c.links
@@ -108,7 +108,7 @@ ValueBelow e k (vals.Fields fs) = FieldsBelow e fs
 ValueBelow e k (vals.Result t) = ResultBelow e t
 ValueBelow e k _ = ⊤
 
-abbrev pub ValuesBelow : ℕ → ℕ → List Value → Type 0
+abbrev pub ValuesBelow : ℕ → ℕ → List SemanticValue → Type 0
 ValuesBelow e k vs = AllByRecursion (ValueBelow e k) vs
 
 -- What is made names expressions below `e` and statements below `k`.
@@ -119,7 +119,7 @@ ProductParts e k (makes.Stmt n) = StmtParts e k n.stmt
 ProductParts e k (makes.Decl n) = DeclParts e k n.decl
 
 -- All that the values on the stack name stands in the package.
-abbrev pub AreOf : Parsed → List Value → Type 0
+abbrev pub AreOf : Parsed → List SemanticValue → Type 0
 AreOf p vs = ValuesBelow (length p.exprs) (length p.stmts) vs
 
 -- What is there where this was made, above these values and after these declarations.

@@ -7,10 +7,10 @@ use Rattle.wf_parse_nodes.specs.declared.actions.ActionKind.{ActionKind}
 use Rattle.wf_parse_nodes.specs.declared.actions.ActionKind.TheVariants as kinds
 use Rattle.wf_parse_nodes.specs.declared.shapes.Shape.{Shape}
 use Rattle.wf_parse_nodes.specs.declared.shapes.Shape.TheVariants as shapes
-use Rattle.wf_parse_nodes.specs.declared.values.Value.{Value}
-use Rattle.wf_parse_nodes.specs.declared.values.Value.TheVariants as vals
+use Rattle.wf_parse_nodes.specs.declared.values.SemanticValue.{SemanticValue}
+use Rattle.wf_parse_nodes.specs.declared.values.SemanticValue.TheVariants as vals
 
-abbrev pub is_shape : Shape → Value → Bool
+abbrev pub is_shape : Shape → SemanticValue → Bool
 is_shape shapes.Name (vals.Name _) = true
 is_shape shapes.Place (vals.Place _) = true
 is_shape shapes.Mark (vals.Mark _) = true
@@ -41,7 +41,7 @@ is_shape shapes.Result (vals.Result _) = true
 is_shape _ _ = false
 
 -- The topmost values have these shapes.
-abbrev pub fits : List Shape → List Value → Bool
+abbrev pub fits : List Shape → List SemanticValue → Bool
 fits ss vs = all_fit is_shape ss vs
 
 -- What an action takes, the topmost first.

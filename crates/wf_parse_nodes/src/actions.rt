@@ -6,9 +6,9 @@ ghost use Rattle.wf_parse_nodes.specs.Making.{making};
 ghost use Rattle.wf_parse_nodes.specs.Shapes.{fits, takes, pushes, kind_of};
 ghost use Rattle.wf_parse_nodes.specs.declared.actions.ActionKind.TheVariants as kinds;
 ghost use Rattle.wf_parse_nodes.specs.Products as makes;
-ghost use Rattle.wf_parse_nodes.specs.declared.values.Value.{Value};
+ghost use Rattle.wf_parse_nodes.specs.declared.values.SemanticValue.{SemanticValue};
 
-use crate::values::{Sign, Value};
+use crate::values::{SemanticValue, Sign};
 use crate::{branches, calls, declarations, expressions, paths, statements, types};
 use stacks::Stack;
 use std::alloc::Global;
@@ -79,7 +79,10 @@ pub(crate) fn kind_of(action: Action) -> ActionKind
 
 /// The value that an action makes for which memory may be wanted.
 #[inline(always)]
-pub(crate) fn grown(action: Action, values: &mut Stack<Value>) -> Result<Value, NoMemory>
+pub(crate) fn grown(
+    action: Action,
+    values: &mut Stack<SemanticValue>,
+) -> Result<SemanticValue, NoMemory>
     requires fit { fits (takes action) values.old ≡ true }
     requires kind { kind_of action ≡ kinds.Grown }
     ensures { IfOk result (λ value. making action values.old ≡ record { product = makes.Value value; vals = values.new }) }
@@ -100,7 +103,11 @@ pub(crate) fn grown(action: Action, values: &mut Stack<Value>) -> Result<Value, 
 
 /// The value that an action makes of those that it takes, where nothing grows.
 #[inline(always)]
-pub(crate) fn made_value(alloc: Global, action: Action, values: &mut Stack<Value>) -> Value
+pub(crate) fn made_value(
+    alloc: Global,
+    action: Action,
+    values: &mut Stack<SemanticValue>,
+) -> SemanticValue
     requires fit { fits (takes action) values.old ≡ true }
     requires takes { pushes action ≡ false }
     requires kind { kind_of action ≡ kinds.Value }
@@ -132,7 +139,7 @@ pub(crate) fn made_value(alloc: Global, action: Action, values: &mut Stack<Value
 
 /// The expression that an action makes.
 #[inline(always)]
-pub(crate) fn made_expr(action: Action, values: &mut Stack<Value>) -> ExprNode
+pub(crate) fn made_expr(action: Action, values: &mut Stack<SemanticValue>) -> ExprNode
     requires fit { fits (takes action) values.old ≡ true }
     requires kind { kind_of action ≡ kinds.Expr }
     ensures { making action values.old ≡ record { product = makes.Expr result; vals = values.new } }
@@ -156,7 +163,7 @@ pub(crate) fn made_expr(action: Action, values: &mut Stack<Value>) -> ExprNode
 
 /// The statement that an action makes.
 #[inline(always)]
-pub(crate) fn made_stmt(action: Action, values: &mut Stack<Value>) -> StmtNode
+pub(crate) fn made_stmt(action: Action, values: &mut Stack<SemanticValue>) -> StmtNode
     requires fit { fits (takes action) values.old ≡ true }
     requires kind { kind_of action ≡ kinds.Stmt }
     ensures { making action values.old ≡ record { product = makes.Stmt result; vals = values.new } }
@@ -180,7 +187,7 @@ pub(crate) fn made_stmt(action: Action, values: &mut Stack<Value>) -> StmtNode
 
 /// The declaration that an action makes.
 #[inline(always)]
-pub(crate) fn made_decl(action: Action, values: &mut Stack<Value>) -> DeclNode
+pub(crate) fn made_decl(action: Action, values: &mut Stack<SemanticValue>) -> DeclNode
     requires fit { fits (takes action) values.old ≡ true }
     requires kind { kind_of action ≡ kinds.Decl }
     ensures { making action values.old ≡ record { product = makes.Decl result; vals = values.new } }
@@ -222,32 +229,32 @@ pub(crate) fn pushes(action: Action) -> bool
 
 /// What an action pushes that takes nothing from the stack.
 #[inline(always)]
-pub(crate) fn pushed(alloc: Global, action: Action) -> Value
+pub(crate) fn pushed(alloc: Global, action: Action) -> SemanticValue
     requires { pushes action ≡ true }
-    ensures { (vs : List Value) → making action vs ≡ record { product = makes.Value result; vals = vs } }
+    ensures { (vs : List SemanticValue) → making action vs ≡ record { product = makes.Value result; vals = vs } }
 {
     match action {
-        Action::PushName(name) => Value::Name(name),
-        Action::PushPlace(at) => Value::Place(at),
-        Action::PushMark(mark) => Value::Mark(mark),
-        Action::PushPublic(public) => Value::Public(public),
-        Action::PushSign { op, at } => Value::Sign(Sign { op, at }),
-        Action::BarePath(name) => Value::Path(Path {
+        Action::PushName(name) => SemanticValue::Name(name),
+        Action::PushPlace(at) => SemanticValue::Place(at),
+        Action::PushMark(mark) => SemanticValue::Mark(mark),
+        Action::PushPublic(public) => SemanticValue::Public(public),
+        Action::PushSign { op, at } => SemanticValue::Sign(Sign { op, at }),
+        Action::BarePath(name) => SemanticValue::Path(Path {
             root: Root::Bare,
             name,
             at: name.at,
         }),
-        Action::NoPart => Value::Part(None),
-        Action::StartGivens => Value::Givens(Sequence::new(alloc)),
-        Action::StartType => Value::Prefixes(Sequence::new(alloc)),
-        Action::NoBounds => Value::Bounds(None),
-        Action::StartItems => Value::Items(Sequence::new(alloc)),
-        Action::StartArms => Value::Arms(Sequence::new(alloc)),
-        Action::NoElse => Value::Otherwise(None),
-        Action::StartClauses => Value::Clauses(Sequence::new(alloc)),
-        Action::NoLabel => Value::Label(None),
-        Action::NoVia => Value::Via(None),
-        Action::StartFields => Value::Fields(Sequence::new(alloc)),
+        Action::NoPart => SemanticValue::Part(None),
+        Action::StartGivens => SemanticValue::Givens(Sequence::new(alloc)),
+        Action::StartType => SemanticValue::Prefixes(Sequence::new(alloc)),
+        Action::NoBounds => SemanticValue::Bounds(None),
+        Action::StartItems => SemanticValue::Items(Sequence::new(alloc)),
+        Action::StartArms => SemanticValue::Arms(Sequence::new(alloc)),
+        Action::NoElse => SemanticValue::Otherwise(None),
+        Action::StartClauses => SemanticValue::Clauses(Sequence::new(alloc)),
+        Action::NoLabel => SemanticValue::Label(None),
+        Action::NoVia => SemanticValue::Via(None),
+        Action::StartFields => SemanticValue::Fields(Sequence::new(alloc)),
         _ => unreachable!(),
     }
 }

@@ -1,6 +1,6 @@
 // Branches, loops, and jumps out of them.
 
-ghost use Rattle.std.specs.Prelude.{◌≡◌, ◌<◌, List, [], ◌∷◌, true, IfOk};
+ghost use Rattle.std.specs.Prelude.{◌≡◌, ◌<◌, [], ◌∷◌, true, IfOk};
 ghost use Rattle.wf_parse_grammar.specs.declared.symbols.Action.TheVariants as does;
 ghost use Rattle.wf_parse_nodes.specs.Making.{making};
 ghost use Rattle.wf_parse_nodes.specs.Products as makes;
@@ -10,14 +10,14 @@ ghost use Rattle.wf_parse_nodes.specs.declared.shapes.Shape.TheVariants as shape
 use crate::pops::{
     pop_arms, pop_block, pop_clauses, pop_expr, pop_label, pop_name, pop_otherwise, pop_place,
 };
-use crate::values::Value;
+use crate::values::SemanticValue;
 use stacks::Stack;
 use wf_ast::parsed::{Arm, Clause, LoopClause, Stmt, StmtNode};
 use wf_text::NoMemory;
 
 /// One arm more of an `if`.
 #[inline(never)]
-pub(crate) fn add_arm(values: &mut Stack<Value>) -> Result<Value, NoMemory>
+pub(crate) fn add_arm(values: &mut Stack<SemanticValue>) -> Result<SemanticValue, NoMemory>
     requires { fits (shapes.Block ∷ shapes.Expr ∷ shapes.Arms ∷ []) values.old ≡ true }
     ensures { IfOk result (λ value. making does.AddArm values.old ≡ record { product = makes.Value value; vals = values.new }) }
 {
@@ -25,22 +25,22 @@ pub(crate) fn add_arm(values: &mut Stack<Value>) -> Result<Value, NoMemory>
     let condition = pop_expr(values);
     let mut arms = pop_arms(values);
     arms.push(Arm { condition, body })?;
-    Ok(Value::Arms(arms))
+    Ok(SemanticValue::Arms(arms))
 }
 
 /// The block after a last `else`.
 #[inline(never)]
-pub(crate) fn some_else(values: &mut Stack<Value>) -> Value
+pub(crate) fn some_else(values: &mut Stack<SemanticValue>) -> SemanticValue
     requires { fits (shapes.Block ∷ []) values.old ≡ true }
     ensures { making does.SomeElse values.old ≡ record { product = makes.Value result; vals = values.new } }
 {
     let body = pop_block(values);
-    Value::Otherwise(Some(body))
+    SemanticValue::Otherwise(Some(body))
 }
 
 /// A whole `if`.
 #[inline(never)]
-pub(crate) fn if_stmt(values: &mut Stack<Value>) -> StmtNode
+pub(crate) fn if_stmt(values: &mut Stack<SemanticValue>) -> StmtNode
     requires { fits (shapes.Otherwise ∷ shapes.Arms ∷ shapes.Place ∷ []) values.old ≡ true }
     ensures { making does.IfStmt values.old ≡ record { product = makes.Stmt result; vals = values.new } }
 {
@@ -55,7 +55,10 @@ pub(crate) fn if_stmt(values: &mut Stack<Value>) -> StmtNode
 
 /// One promise more of a loop.
 #[inline(never)]
-pub(crate) fn add_clause(kind: Clause, values: &mut Stack<Value>) -> Result<Value, NoMemory>
+pub(crate) fn add_clause(
+    kind: Clause,
+    values: &mut Stack<SemanticValue>,
+) -> Result<SemanticValue, NoMemory>
     requires { fits (shapes.Expr ∷ shapes.Place ∷ shapes.Clauses ∷ []) values.old ≡ true }
     ensures { IfOk result (λ value. making (does.AddClause kind) values.old ≡ record { product = makes.Value value; vals = values.new }) }
 {
@@ -67,12 +70,12 @@ pub(crate) fn add_clause(kind: Clause, values: &mut Stack<Value>) -> Result<Valu
         condition,
         at,
     })?;
-    Ok(Value::Clauses(clauses))
+    Ok(SemanticValue::Clauses(clauses))
 }
 
 /// A loop without a label.
 #[inline(never)]
-pub(crate) fn loop_stmt(values: &mut Stack<Value>) -> StmtNode
+pub(crate) fn loop_stmt(values: &mut Stack<SemanticValue>) -> StmtNode
     requires { fits (shapes.Block ∷ shapes.Clauses ∷ shapes.Expr ∷ shapes.Place ∷ []) values.old ≡ true }
     ensures { making does.LoopStmt values.old ≡ record { product = makes.Stmt result; vals = values.new } }
 {
@@ -93,7 +96,7 @@ pub(crate) fn loop_stmt(values: &mut Stack<Value>) -> StmtNode
 
 /// A loop with a label.
 #[inline(never)]
-pub(crate) fn labelled_stmt(values: &mut Stack<Value>) -> StmtNode
+pub(crate) fn labelled_stmt(values: &mut Stack<SemanticValue>) -> StmtNode
     requires { fits (shapes.Block ∷ shapes.Clauses ∷ shapes.Expr ∷ shapes.Name ∷ shapes.Place ∷ []) values.old ≡ true }
     ensures { making does.LabelledStmt values.old ≡ record { product = makes.Stmt result; vals = values.new } }
 {
@@ -115,17 +118,17 @@ pub(crate) fn labelled_stmt(values: &mut Stack<Value>) -> StmtNode
 
 /// The label of a jump.
 #[inline(never)]
-pub(crate) fn some_label(values: &mut Stack<Value>) -> Value
+pub(crate) fn some_label(values: &mut Stack<SemanticValue>) -> SemanticValue
     requires { fits (shapes.Name ∷ []) values.old ≡ true }
     ensures { making does.SomeLabel values.old ≡ record { product = makes.Value result; vals = values.new } }
 {
     let name = pop_name(values);
-    Value::Label(Some(name))
+    SemanticValue::Label(Some(name))
 }
 
 /// A `break`.
 #[inline(never)]
-pub(crate) fn break_stmt(values: &mut Stack<Value>) -> StmtNode
+pub(crate) fn break_stmt(values: &mut Stack<SemanticValue>) -> StmtNode
     requires { fits (shapes.Label ∷ shapes.Place ∷ []) values.old ≡ true }
     ensures { making does.BreakStmt values.old ≡ record { product = makes.Stmt result; vals = values.new } }
 {
@@ -139,7 +142,7 @@ pub(crate) fn break_stmt(values: &mut Stack<Value>) -> StmtNode
 
 /// A `continue`.
 #[inline(never)]
-pub(crate) fn continue_stmt(values: &mut Stack<Value>) -> StmtNode
+pub(crate) fn continue_stmt(values: &mut Stack<SemanticValue>) -> StmtNode
     requires { fits (shapes.Label ∷ shapes.Place ∷ []) values.old ≡ true }
     ensures { making does.ContinueStmt values.old ≡ record { product = makes.Stmt result; vals = values.new } }
 {

@@ -1,6 +1,6 @@
 // Declarations and their fields.
 
-ghost use Rattle.std.specs.Prelude.{◌≡◌, ◌<◌, List, [], ◌∷◌, true, IfOk};
+ghost use Rattle.std.specs.Prelude.{◌≡◌, ◌<◌, [], ◌∷◌, true, IfOk};
 ghost use Rattle.wf_parse_grammar.specs.declared.symbols.Action.TheVariants as does;
 ghost use Rattle.wf_parse_nodes.specs.Making.{making};
 ghost use Rattle.wf_parse_nodes.specs.Products as makes;
@@ -11,14 +11,14 @@ use crate::pops::{
     pop_block, pop_expr, pop_fields, pop_mark, pop_name, pop_place, pop_prefixes, pop_public,
     pop_result, pop_type,
 };
-use crate::values::Value;
+use crate::values::SemanticValue;
 use stacks::Stack;
 use wf_ast::parsed::{Decl, DeclNode, Field};
 use wf_text::NoMemory;
 
 /// One field more.
 #[inline(never)]
-pub(crate) fn add_field(values: &mut Stack<Value>) -> Result<Value, NoMemory>
+pub(crate) fn add_field(values: &mut Stack<SemanticValue>) -> Result<SemanticValue, NoMemory>
     requires { fits (shapes.Type ∷ shapes.Name ∷ shapes.Fields ∷ []) values.old ≡ true }
     ensures { IfOk result (λ value. making does.AddField values.old ≡ record { product = makes.Value value; vals = values.new }) }
 {
@@ -26,32 +26,32 @@ pub(crate) fn add_field(values: &mut Stack<Value>) -> Result<Value, NoMemory>
     let name = pop_name(values);
     let mut fields = pop_fields(values);
     fields.push(Field { name, of })?;
-    Ok(Value::Fields(fields))
+    Ok(SemanticValue::Fields(fields))
 }
 
 /// No result of a method.
 #[inline(never)]
-pub(crate) fn no_result(values: &mut Stack<Value>) -> Value
+pub(crate) fn no_result(values: &mut Stack<SemanticValue>) -> SemanticValue
     requires { fits (shapes.Prefixes ∷ []) values.old ≡ true }
     ensures { making does.NoResult values.old ≡ record { product = makes.Value result; vals = values.new } }
 {
     let _prefixes = pop_prefixes(values);
-    Value::Result(None)
+    SemanticValue::Result(None)
 }
 
 /// The result of a method.
 #[inline(never)]
-pub(crate) fn some_result(values: &mut Stack<Value>) -> Value
+pub(crate) fn some_result(values: &mut Stack<SemanticValue>) -> SemanticValue
     requires { fits (shapes.Type ∷ []) values.old ≡ true }
     ensures { making does.SomeResult values.old ≡ record { product = makes.Value result; vals = values.new } }
 {
     let of = pop_type(values);
-    Value::Result(Some(of))
+    SemanticValue::Result(Some(of))
 }
 
 /// A status.
 #[inline(never)]
-pub(crate) fn status_decl(values: &mut Stack<Value>) -> DeclNode
+pub(crate) fn status_decl(values: &mut Stack<SemanticValue>) -> DeclNode
     requires { fits (shapes.Name ∷ shapes.Place ∷ shapes.Public ∷ []) values.old ≡ true }
     ensures { making does.StatusDecl values.old ≡ record { product = makes.Decl result; vals = values.new } }
 {
@@ -67,7 +67,7 @@ pub(crate) fn status_decl(values: &mut Stack<Value>) -> DeclNode
 
 /// A constant.
 #[inline(never)]
-pub(crate) fn const_decl(values: &mut Stack<Value>) -> DeclNode
+pub(crate) fn const_decl(values: &mut Stack<SemanticValue>) -> DeclNode
     requires { fits (shapes.Expr ∷ shapes.Type ∷ shapes.Name ∷ shapes.Place ∷ shapes.Public ∷ []) values.old ≡ true }
     ensures { making does.ConstDecl values.old ≡ record { product = makes.Decl result; vals = values.new } }
 {
@@ -85,7 +85,7 @@ pub(crate) fn const_decl(values: &mut Stack<Value>) -> DeclNode
 
 /// A struct.
 #[inline(never)]
-pub(crate) fn struct_decl(values: &mut Stack<Value>) -> DeclNode
+pub(crate) fn struct_decl(values: &mut Stack<SemanticValue>) -> DeclNode
     requires { fits (shapes.Fields ∷ shapes.Mark ∷ shapes.Name ∷ shapes.Place ∷ shapes.Public ∷ []) values.old ≡ true }
     ensures { making does.StructDecl values.old ≡ record { product = makes.Decl result; vals = values.new } }
 {
@@ -103,7 +103,7 @@ pub(crate) fn struct_decl(values: &mut Stack<Value>) -> DeclNode
 
 /// A method.
 #[inline(never)]
-pub(crate) fn method_decl(values: &mut Stack<Value>) -> DeclNode
+pub(crate) fn method_decl(values: &mut Stack<SemanticValue>) -> DeclNode
     requires { fits (shapes.Block ∷ shapes.Result ∷ shapes.Fields ∷ shapes.Mark ∷ shapes.Name ∷ shapes.Name ∷ shapes.Place ∷ shapes.Public ∷ []) values.old ≡ true }
     ensures { making does.MethodDecl values.old ≡ record { product = makes.Decl result; vals = values.new } }
 {

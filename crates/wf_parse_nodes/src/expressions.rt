@@ -1,6 +1,6 @@
 // Expressions, as their last token is read.
 
-ghost use Rattle.std.specs.Prelude.{◌≡◌, ◌<◌, List, [], ◌∷◌, true, IfOk};
+ghost use Rattle.std.specs.Prelude.{◌≡◌, ◌<◌, [], ◌∷◌, true, IfOk};
 ghost use Rattle.wf_parse_grammar.specs.declared.symbols.Action.TheVariants as does;
 ghost use Rattle.wf_ast.specs.declared.parsed.Expr.TheVariants as exprs;
 ghost use Rattle.wf_parse_nodes.specs.Making.{making};
@@ -11,7 +11,7 @@ ghost use Rattle.wf_parse_nodes.specs.declared.shapes.Shape.TheVariants as shape
 use crate::pops::{
     pop_call, pop_chain, pop_expr, pop_name, pop_part, pop_path, pop_place, pop_type,
 };
-use crate::values::{OpenChain, Value};
+use crate::values::{OpenChain, SemanticValue};
 use stacks::Stack;
 use std::alloc::Global;
 use wf_ast::parsed::{Expr, ExprNode, Link, Name};
@@ -64,7 +64,7 @@ pub(crate) fn truth_expr(value: bool, at: Place) -> ExprNode
 
 /// A status of the language.
 #[inline(never)]
-pub(crate) fn base_status_expr(values: &mut Stack<Value>) -> ExprNode
+pub(crate) fn base_status_expr(values: &mut Stack<SemanticValue>) -> ExprNode
     requires { fits (shapes.Name ∷ shapes.Place ∷ []) values.old ≡ true }
     ensures { making does.BaseStatusExpr values.old ≡ record { product = makes.Expr result; vals = values.new } }
 {
@@ -78,7 +78,7 @@ pub(crate) fn base_status_expr(values: &mut Stack<Value>) -> ExprNode
 
 /// A path as an operand.
 #[inline(never)]
-pub(crate) fn path_expr(values: &mut Stack<Value>) -> ExprNode
+pub(crate) fn path_expr(values: &mut Stack<SemanticValue>) -> ExprNode
     requires { fits (shapes.Path ∷ []) values.old ≡ true }
     ensures { making does.PathExpr values.old ≡ record { product = makes.Expr result; vals = values.new } }
 {
@@ -91,7 +91,7 @@ pub(crate) fn path_expr(values: &mut Stack<Value>) -> ExprNode
 
 /// An index.
 #[inline(never)]
-pub(crate) fn index_expr(values: &mut Stack<Value>) -> ExprNode
+pub(crate) fn index_expr(values: &mut Stack<SemanticValue>) -> ExprNode
     requires { fits (shapes.Expr ∷ shapes.Place ∷ shapes.Path ∷ []) values.old ≡ true }
     ensures { making does.IndexExpr values.old ≡ record { product = makes.Expr result; vals = values.new } }
 {
@@ -106,7 +106,7 @@ pub(crate) fn index_expr(values: &mut Stack<Value>) -> ExprNode
 
 /// A slice.
 #[inline(never)]
-pub(crate) fn slice_expr(values: &mut Stack<Value>) -> ExprNode
+pub(crate) fn slice_expr(values: &mut Stack<SemanticValue>) -> ExprNode
     requires { fits (shapes.Part ∷ shapes.Part ∷ shapes.Place ∷ shapes.Path ∷ []) values.old ≡ true }
     ensures { making does.SliceExpr values.old ≡ record { product = makes.Expr result; vals = values.new } }
 {
@@ -122,7 +122,7 @@ pub(crate) fn slice_expr(values: &mut Stack<Value>) -> ExprNode
 
 /// A call as an operand.
 #[inline(never)]
-pub(crate) fn call_expr(values: &mut Stack<Value>) -> ExprNode
+pub(crate) fn call_expr(values: &mut Stack<SemanticValue>) -> ExprNode
     requires { fits (shapes.Call ∷ []) values.old ≡ true }
     ensures { making does.CallExpr values.old ≡ record { product = makes.Expr result; vals = values.new } }
 {
@@ -136,7 +136,7 @@ pub(crate) fn call_expr(values: &mut Stack<Value>) -> ExprNode
 
 /// A negation.
 #[inline(never)]
-pub(crate) fn not_expr(values: &mut Stack<Value>) -> ExprNode
+pub(crate) fn not_expr(values: &mut Stack<SemanticValue>) -> ExprNode
     requires { fits (shapes.Expr ∷ shapes.Place ∷ []) values.old ≡ true }
     ensures { making does.NotExpr values.old ≡ record { product = makes.Expr result; vals = values.new } }
 {
@@ -150,7 +150,7 @@ pub(crate) fn not_expr(values: &mut Stack<Value>) -> ExprNode
 
 /// A conversion.
 #[inline(never)]
-pub(crate) fn convert_expr(values: &mut Stack<Value>) -> ExprNode
+pub(crate) fn convert_expr(values: &mut Stack<SemanticValue>) -> ExprNode
     requires { fits (shapes.Type ∷ shapes.Place ∷ shapes.Expr ∷ []) values.old ≡ true }
     ensures { making does.ConvertExpr values.old ≡ record { product = makes.Expr result; vals = values.new } }
 {
@@ -165,12 +165,17 @@ pub(crate) fn convert_expr(values: &mut Stack<Value>) -> ExprNode
 
 /// A chain with its first operand.
 #[inline(never)]
-pub(crate) fn start_chain(alloc: Global, op: Op, at: Place, values: &mut Stack<Value>) -> Value
+pub(crate) fn start_chain(
+    alloc: Global,
+    op: Op,
+    at: Place,
+    values: &mut Stack<SemanticValue>,
+) -> SemanticValue
     requires { fits (shapes.Expr ∷ []) values.old ≡ true }
     ensures { making (does.StartChain op at) values.old ≡ record { product = makes.Value result; vals = values.new } }
 {
     let first = pop_expr(values);
-    Value::Chain(OpenChain {
+    SemanticValue::Chain(OpenChain {
         op,
         first,
         links: Sequence::new(alloc),
@@ -180,7 +185,7 @@ pub(crate) fn start_chain(alloc: Global, op: Op, at: Place, values: &mut Stack<V
 
 /// One operand more of a chain.
 #[inline(never)]
-pub(crate) fn add_link(values: &mut Stack<Value>) -> Result<Value, NoMemory>
+pub(crate) fn add_link(values: &mut Stack<SemanticValue>) -> Result<SemanticValue, NoMemory>
     requires { fits (shapes.Expr ∷ shapes.Place ∷ shapes.Chain ∷ []) values.old ≡ true }
     ensures { IfOk result (λ value. making does.AddLink values.old ≡ record { product = makes.Value value; vals = values.new }) }
 {
@@ -189,7 +194,7 @@ pub(crate) fn add_link(values: &mut Stack<Value>) -> Result<Value, NoMemory>
     let chain = pop_chain(values);
     let mut links = chain.links;
     links.push(Link { sign, operand })?;
-    Ok(Value::Chain(OpenChain {
+    Ok(SemanticValue::Chain(OpenChain {
         op: chain.op,
         first: chain.first,
         links,
@@ -199,7 +204,7 @@ pub(crate) fn add_link(values: &mut Stack<Value>) -> Result<Value, NoMemory>
 
 /// A whole chain.
 #[inline(never)]
-pub(crate) fn finish_chain(values: &mut Stack<Value>) -> ExprNode
+pub(crate) fn finish_chain(values: &mut Stack<SemanticValue>) -> ExprNode
     requires { fits (shapes.Chain ∷ []) values.old ≡ true }
     ensures { making does.FinishChain values.old ≡ record { product = makes.Expr result; vals = values.new } }
 {
@@ -216,10 +221,10 @@ pub(crate) fn finish_chain(values: &mut Stack<Value>) -> ExprNode
 
 /// An expression that might be absent.
 #[inline(never)]
-pub(crate) fn some_part(values: &mut Stack<Value>) -> Value
+pub(crate) fn some_part(values: &mut Stack<SemanticValue>) -> SemanticValue
     requires { fits (shapes.Expr ∷ []) values.old ≡ true }
     ensures { making does.SomePart values.old ≡ record { product = makes.Value result; vals = values.new } }
 {
     let part = pop_expr(values);
-    Value::Part(Some(part))
+    SemanticValue::Part(Some(part))
 }

@@ -17,4 +17,4 @@ pub mod types;
 pub mod values;
 
 pub use maker::Maker;
-pub use values::Value;
+pub use values::SemanticValue;

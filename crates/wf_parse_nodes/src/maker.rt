@@ -1,6 +1,6 @@
 // The package that is made, with the values of what is read so far.
 
-ghost use Rattle.std.specs.Prelude.{◌≡◌, ◌+◌, ◌<◌, ◌≤◌, ◌^◌, ℕ, List, [], ◌∷◌, length, true, false, IfOk, OnOk};
+ghost use Rattle.std.specs.Prelude.{◌≡◌, ◌+◌, ◌<◌, ◌≤◌, ◌^◌, length, true, false, OnOk};
 ghost use Rattle.wf_ast.specs.ParsedTrees.{expr_trees, stmt_trees, decl_trees};
 ghost use Rattle.wf_parse_grammar.specs.Building.{all_performed};
 ghost use Rattle.wf_parse_grammar.specs.Values.{perform};
@@ -15,7 +15,7 @@ use crate::actions::{
     ActionKind, grown, kind_of, made_decl, made_expr, made_stmt, made_value, pushed, pushes,
 };
 use crate::shapes::takes;
-use crate::values::Value;
+use crate::values::SemanticValue;
 use stacks::{Stack, fits};
 use std::alloc::Global;
 use wf_ast::PackageNodes;
@@ -28,7 +28,7 @@ use wf_text::NoMemory;
 pub struct Maker {
     pub alloc: Global,
     pub package: PackageNodes,
-    pub values: Stack<Value>,
+    pub values: Stack<SemanticValue>,
 }
 
 impl Maker {
@@ -43,7 +43,7 @@ impl Maker {
         ensures texts { OnOk result (KeepsTexts self.old.package self.new.package) }
     {
         let number = self.package.push_expr(node)?;
-        self.values.push(Value::Expr(number))
+        self.values.push(SemanticValue::Expr(number))
     }
 
     /// Puts a statement into the package, and its number on the stack.
@@ -57,7 +57,7 @@ impl Maker {
         ensures texts { OnOk result (KeepsTexts self.old.package self.new.package) }
     {
         let number = self.package.push_stmt(node)?;
-        self.values.push(Value::Stmt(number))
+        self.values.push(SemanticValue::Stmt(number))
     }
 
     /// Puts a declaration into the package.
@@ -76,7 +76,7 @@ impl Maker {
 
     /// Puts a value on the stack.
     #[inline(always)]
-    fn put_value(&mut self, value: Value) -> Result<(), NoMemory>
+    fn put_value(&mut self, value: SemanticValue) -> Result<(), NoMemory>
         requires sound { IsSound self.old }
         requires parts { ProductParts (length self.old.package.exprs) (length self.old.package.stmts) (makes.Value value) }
         ensures made { OnOk result (made self.new ≡ made_with (expr_trees self.old.package.exprs) (stmt_trees self.old.package.exprs self.old.package.stmts) (makes.Value value) (seen_values (expr_trees self.old.package.exprs) (stmt_trees self.old.package.exprs self.old.package.stmts) self.old.values) (decl_trees self.old.package.exprs self.old.package.stmts self.old.package.decls)) }

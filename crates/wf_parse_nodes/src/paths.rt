@@ -1,6 +1,6 @@
 // Paths, and what calls are made on.
 
-ghost use Rattle.std.specs.Prelude.{◌≡◌, ◌<◌, List, [], ◌∷◌, true, IfOk};
+ghost use Rattle.std.specs.Prelude.{◌≡◌, ◌<◌, [], ◌∷◌, true, IfOk};
 ghost use Rattle.wf_parse_grammar.specs.declared.symbols.Action.TheVariants as does;
 ghost use Rattle.wf_parse_nodes.specs.Making.{making};
 ghost use Rattle.wf_parse_nodes.specs.Products as makes;
@@ -8,20 +8,20 @@ ghost use Rattle.wf_parse_nodes.specs.Shapes.{fits};
 ghost use Rattle.wf_parse_nodes.specs.declared.shapes.Shape.TheVariants as shapes;
 
 use crate::pops::{pop_name, pop_path, pop_place};
-use crate::values::Value;
+use crate::values::SemanticValue;
 use stacks::Stack;
 use wf_ast::parsed::{Path, Receiver, Root};
 use wf_text::NoMemory;
 
 /// A name after `this` and a dot.
 #[inline(never)]
-pub(crate) fn this_path(values: &mut Stack<Value>) -> Value
+pub(crate) fn this_path(values: &mut Stack<SemanticValue>) -> SemanticValue
     requires { fits (shapes.Name ∷ shapes.Place ∷ []) values.old ≡ true }
     ensures { making does.ThisPath values.old ≡ record { product = makes.Value result; vals = values.new } }
 {
     let name = pop_name(values);
     let at = pop_place(values);
-    Value::Path(Path {
+    SemanticValue::Path(Path {
         root: Root::This,
         name,
         at,
@@ -30,13 +30,13 @@ pub(crate) fn this_path(values: &mut Stack<Value>) -> Value
 
 /// A name after `args` and a dot.
 #[inline(never)]
-pub(crate) fn args_path(values: &mut Stack<Value>) -> Value
+pub(crate) fn args_path(values: &mut Stack<SemanticValue>) -> SemanticValue
     requires { fits (shapes.Name ∷ shapes.Place ∷ []) values.old ≡ true }
     ensures { making does.ArgsPath values.old ≡ record { product = makes.Value result; vals = values.new } }
 {
     let name = pop_name(values);
     let at = pop_place(values);
-    Value::Path(Path {
+    SemanticValue::Path(Path {
         root: Root::Args,
         name,
         at,
@@ -45,22 +45,22 @@ pub(crate) fn args_path(values: &mut Stack<Value>) -> Value
 
 /// A path that a call is made on.
 #[inline(never)]
-pub(crate) fn path_receiver(values: &mut Stack<Value>) -> Value
+pub(crate) fn path_receiver(values: &mut Stack<SemanticValue>) -> SemanticValue
     requires { fits (shapes.Path ∷ []) values.old ≡ true }
     ensures { making does.PathReceiver values.old ≡ record { product = makes.Value result; vals = values.new } }
 {
     let path = pop_path(values);
-    Value::Receiver(Receiver::Path(path))
+    SemanticValue::Receiver(Receiver::Path(path))
 }
 
 /// `this` that a call is made on, below the method's name.
 #[inline(never)]
-pub(crate) fn this_method(values: &mut Stack<Value>) -> Result<Value, NoMemory>
+pub(crate) fn this_method(values: &mut Stack<SemanticValue>) -> Result<SemanticValue, NoMemory>
     requires { fits (shapes.Name ∷ shapes.Place ∷ []) values.old ≡ true }
     ensures { IfOk result (λ value. making does.ThisMethod values.old ≡ record { product = makes.Value value; vals = values.new }) }
 {
     let name = pop_name(values);
     let at = pop_place(values);
-    values.push(Value::Receiver(Receiver::This(at)))?;
-    Ok(Value::Name(name))
+    values.push(SemanticValue::Receiver(Receiver::This(at)))?;
+    Ok(SemanticValue::Name(name))
 }

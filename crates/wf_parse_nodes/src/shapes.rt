@@ -3,7 +3,7 @@
 ghost use Rattle.std.specs.Prelude.{◌≡◌};
 ghost use Rattle.wf_parse_nodes.specs.Shapes.{is_shape, takes};
 
-use crate::values::Value;
+use crate::values::SemanticValue;
 use stacks::ShapeOf;
 use wf_parse_grammar::Action;
 
@@ -39,38 +39,38 @@ pub(crate) enum Shape {
     Result,
 }
 
-impl ShapeOf<Value> for Shape {
+impl ShapeOf<SemanticValue> for Shape {
     ghost is_shape = { is_shape };
 
-    fn is_of(self, value: &Value) -> bool {
+    fn is_of(self, value: &SemanticValue) -> bool {
         match (self, value) {
-            (Shape::Name, Value::Name(_)) => true,
-            (Shape::Place, Value::Place(_)) => true,
-            (Shape::Mark, Value::Mark(_)) => true,
-            (Shape::Public, Value::Public(_)) => true,
-            (Shape::Sign, Value::Sign(_)) => true,
-            (Shape::Path, Value::Path(_)) => true,
-            (Shape::Receiver, Value::Receiver(_)) => true,
-            (Shape::Expr, Value::Expr(_)) => true,
-            (Shape::Part, Value::Part(_)) => true,
-            (Shape::Chain, Value::Chain(_)) => true,
-            (Shape::Givens, Value::Givens(_)) => true,
-            (Shape::Call, Value::Call(_)) => true,
-            (Shape::Prefixes, Value::Prefixes(_)) => true,
-            (Shape::Core, Value::Core(_)) => true,
-            (Shape::Bounds, Value::Bounds(_)) => true,
-            (Shape::Type, Value::Type(_)) => true,
-            (Shape::Items, Value::Items(_)) => true,
-            (Shape::Block, Value::Block(_)) => true,
-            (Shape::Stmt, Value::Stmt(_)) => true,
-            (Shape::Target, Value::Target(_)) => true,
-            (Shape::Arms, Value::Arms(_)) => true,
-            (Shape::Otherwise, Value::Otherwise(_)) => true,
-            (Shape::Clauses, Value::Clauses(_)) => true,
-            (Shape::Label, Value::Label(_)) => true,
-            (Shape::Via, Value::Via(_)) => true,
-            (Shape::Fields, Value::Fields(_)) => true,
-            (Shape::Result, Value::Result(_)) => true,
+            (Shape::Name, SemanticValue::Name(_)) => true,
+            (Shape::Place, SemanticValue::Place(_)) => true,
+            (Shape::Mark, SemanticValue::Mark(_)) => true,
+            (Shape::Public, SemanticValue::Public(_)) => true,
+            (Shape::Sign, SemanticValue::Sign(_)) => true,
+            (Shape::Path, SemanticValue::Path(_)) => true,
+            (Shape::Receiver, SemanticValue::Receiver(_)) => true,
+            (Shape::Expr, SemanticValue::Expr(_)) => true,
+            (Shape::Part, SemanticValue::Part(_)) => true,
+            (Shape::Chain, SemanticValue::Chain(_)) => true,
+            (Shape::Givens, SemanticValue::Givens(_)) => true,
+            (Shape::Call, SemanticValue::Call(_)) => true,
+            (Shape::Prefixes, SemanticValue::Prefixes(_)) => true,
+            (Shape::Core, SemanticValue::Core(_)) => true,
+            (Shape::Bounds, SemanticValue::Bounds(_)) => true,
+            (Shape::Type, SemanticValue::Type(_)) => true,
+            (Shape::Items, SemanticValue::Items(_)) => true,
+            (Shape::Block, SemanticValue::Block(_)) => true,
+            (Shape::Stmt, SemanticValue::Stmt(_)) => true,
+            (Shape::Target, SemanticValue::Target(_)) => true,
+            (Shape::Arms, SemanticValue::Arms(_)) => true,
+            (Shape::Otherwise, SemanticValue::Otherwise(_)) => true,
+            (Shape::Clauses, SemanticValue::Clauses(_)) => true,
+            (Shape::Label, SemanticValue::Label(_)) => true,
+            (Shape::Via, SemanticValue::Via(_)) => true,
+            (Shape::Fields, SemanticValue::Fields(_)) => true,
+            (Shape::Result, SemanticValue::Result(_)) => true,
             _ => false,
         }
     }

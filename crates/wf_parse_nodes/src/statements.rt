@@ -1,6 +1,6 @@
 // Statements but for those with blocks.
 
-ghost use Rattle.std.specs.Prelude.{◌≡◌, ◌<◌, List, [], ◌∷◌, true, IfOk};
+ghost use Rattle.std.specs.Prelude.{◌≡◌, ◌<◌, [], ◌∷◌, true, IfOk};
 ghost use Rattle.wf_parse_grammar.specs.declared.symbols.Action.TheVariants as does;
 ghost use Rattle.wf_parse_nodes.specs.Making.{making};
 ghost use Rattle.wf_parse_nodes.specs.Products as makes;
@@ -11,36 +11,36 @@ use crate::pops::{
     pop_call, pop_expr, pop_givens, pop_items, pop_name, pop_part, pop_path, pop_place, pop_sign,
     pop_stmt, pop_target, pop_type, pop_via,
 };
-use crate::values::Value;
+use crate::values::SemanticValue;
 use stacks::Stack;
 use wf_ast::parsed::{Block, Stmt, StmtNode, Target, Via};
 use wf_text::{NoMemory, Place};
 
 /// One statement more of a block.
 #[inline(never)]
-pub(crate) fn add_stmt(values: &mut Stack<Value>) -> Result<Value, NoMemory>
+pub(crate) fn add_stmt(values: &mut Stack<SemanticValue>) -> Result<SemanticValue, NoMemory>
     requires { fits (shapes.Stmt ∷ shapes.Items ∷ []) values.old ≡ true }
     ensures { IfOk result (λ value. making does.AddStmt values.old ≡ record { product = makes.Value value; vals = values.new }) }
 {
     let stmt = pop_stmt(values);
     let mut items = pop_items(values);
     items.push(stmt)?;
-    Ok(Value::Items(items))
+    Ok(SemanticValue::Items(items))
 }
 
 /// A whole block.
 #[inline(never)]
-pub(crate) fn close_block(close: Place, values: &mut Stack<Value>) -> Value
+pub(crate) fn close_block(close: Place, values: &mut Stack<SemanticValue>) -> SemanticValue
     requires { fits (shapes.Items ∷ []) values.old ≡ true }
     ensures { making (does.CloseBlock close) values.old ≡ record { product = makes.Value result; vals = values.new } }
 {
     let items = pop_items(values);
-    Value::Block(Block { items, close })
+    SemanticValue::Block(Block { items, close })
 }
 
 /// A declaration of a local.
 #[inline(never)]
-pub(crate) fn var_stmt(values: &mut Stack<Value>) -> StmtNode
+pub(crate) fn var_stmt(values: &mut Stack<SemanticValue>) -> StmtNode
     requires { fits (shapes.Type ∷ shapes.Name ∷ shapes.Place ∷ []) values.old ≡ true }
     ensures { making does.VarStmt values.old ≡ record { product = makes.Stmt result; vals = values.new } }
 {
@@ -55,29 +55,29 @@ pub(crate) fn var_stmt(values: &mut Stack<Value>) -> StmtNode
 
 /// A path that is written to.
 #[inline(never)]
-pub(crate) fn path_target(values: &mut Stack<Value>) -> Value
+pub(crate) fn path_target(values: &mut Stack<SemanticValue>) -> SemanticValue
     requires { fits (shapes.Path ∷ []) values.old ≡ true }
     ensures { making does.PathTarget values.old ≡ record { product = makes.Value result; vals = values.new } }
 {
     let path = pop_path(values);
-    Value::Target(Target::Path(path))
+    SemanticValue::Target(Target::Path(path))
 }
 
 /// An element that is written to.
 #[inline(never)]
-pub(crate) fn element_target(values: &mut Stack<Value>) -> Value
+pub(crate) fn element_target(values: &mut Stack<SemanticValue>) -> SemanticValue
     requires { fits (shapes.Expr ∷ shapes.Place ∷ shapes.Path ∷ []) values.old ≡ true }
     ensures { making does.ElementTarget values.old ≡ record { product = makes.Value result; vals = values.new } }
 {
     let index = pop_expr(values);
     let at = pop_place(values);
     let base = pop_path(values);
-    Value::Target(Target::Element { base, index, at })
+    SemanticValue::Target(Target::Element { base, index, at })
 }
 
 /// An assignment.
 #[inline(never)]
-pub(crate) fn assign_stmt(values: &mut Stack<Value>) -> StmtNode
+pub(crate) fn assign_stmt(values: &mut Stack<SemanticValue>) -> StmtNode
     requires { fits (shapes.Expr ∷ shapes.Sign ∷ shapes.Target ∷ shapes.Place ∷ []) values.old ≡ true }
     ensures { making does.AssignStmt values.old ≡ record { product = makes.Stmt result; vals = values.new } }
 {
@@ -98,7 +98,7 @@ pub(crate) fn assign_stmt(values: &mut Stack<Value>) -> StmtNode
 
 /// An assignment by `=?`.
 #[inline(never)]
-pub(crate) fn keep_stmt(values: &mut Stack<Value>) -> StmtNode
+pub(crate) fn keep_stmt(values: &mut Stack<SemanticValue>) -> StmtNode
     requires { fits (shapes.Call ∷ shapes.Target ∷ shapes.Place ∷ []) values.old ≡ true }
     ensures { making does.KeepStmt values.old ≡ record { product = makes.Stmt result; vals = values.new } }
 {
@@ -113,7 +113,7 @@ pub(crate) fn keep_stmt(values: &mut Stack<Value>) -> StmtNode
 
 /// A call as a statement.
 #[inline(never)]
-pub(crate) fn call_stmt(values: &mut Stack<Value>) -> StmtNode
+pub(crate) fn call_stmt(values: &mut Stack<SemanticValue>) -> StmtNode
     requires { fits (shapes.Call ∷ shapes.Place ∷ []) values.old ≡ true }
     ensures { making does.CallStmt values.old ≡ record { product = makes.Stmt result; vals = values.new } }
 {
@@ -127,7 +127,7 @@ pub(crate) fn call_stmt(values: &mut Stack<Value>) -> StmtNode
 
 /// A `return`.
 #[inline(never)]
-pub(crate) fn return_stmt(values: &mut Stack<Value>) -> StmtNode
+pub(crate) fn return_stmt(values: &mut Stack<SemanticValue>) -> StmtNode
     requires { fits (shapes.Part ∷ shapes.Place ∷ []) values.old ≡ true }
     ensures { making does.ReturnStmt values.old ≡ record { product = makes.Stmt result; vals = values.new } }
 {
@@ -141,7 +141,7 @@ pub(crate) fn return_stmt(values: &mut Stack<Value>) -> StmtNode
 
 /// A `yield`.
 #[inline(never)]
-pub(crate) fn yield_stmt(values: &mut Stack<Value>) -> StmtNode
+pub(crate) fn yield_stmt(values: &mut Stack<SemanticValue>) -> StmtNode
     requires { fits (shapes.Expr ∷ shapes.Place ∷ []) values.old ≡ true }
     ensures { making does.YieldStmt values.old ≡ record { product = makes.Stmt result; vals = values.new } }
 {
@@ -155,18 +155,18 @@ pub(crate) fn yield_stmt(values: &mut Stack<Value>) -> StmtNode
 
 /// An axiom with what is given to it.
 #[inline(never)]
-pub(crate) fn some_via(values: &mut Stack<Value>) -> Value
+pub(crate) fn some_via(values: &mut Stack<SemanticValue>) -> SemanticValue
     requires { fits (shapes.Givens ∷ shapes.Name ∷ []) values.old ≡ true }
     ensures { making does.SomeVia values.old ≡ record { product = makes.Value result; vals = values.new } }
 {
     let given = pop_givens(values);
     let axiom = pop_name(values);
-    Value::Via(Some(Via { axiom, given }))
+    SemanticValue::Via(Some(Via { axiom, given }))
 }
 
 /// An assertion.
 #[inline(never)]
-pub(crate) fn assert_stmt(values: &mut Stack<Value>) -> StmtNode
+pub(crate) fn assert_stmt(values: &mut Stack<SemanticValue>) -> StmtNode
     requires { fits (shapes.Via ∷ shapes.Expr ∷ shapes.Place ∷ []) values.old ≡ true }
     ensures { making does.AssertStmt values.old ≡ record { product = makes.Stmt result; vals = values.new } }
 {

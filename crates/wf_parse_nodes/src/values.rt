@@ -33,7 +33,7 @@ pub enum OpenCore {
 
 /// What a part of the grammar means, or what of it is read so far. Lists are in the order of the file.
 #[derive(Drop)]
-pub enum Value {
+pub enum SemanticValue {
     /// A name or a quoted text.
     Name(Name),
     /// The place of a token.

@@ -48,7 +48,7 @@ pub record HasTooMany (p : PackageTree) (r : Refusal) : Type 0 where
   pub numbered : number_of method.body point ≡ most_points + 1
   pub refused : r ≡ record { rule = L9; at = point.at }
 
--- Of the methods with too many points the one at the least place decides. Where memory is refused nothing is said.
+-- The first refusal of the methods with too many points. Where memory is refused nothing is said.
 abbrev pub IsRefusedFor : PackageTree → PhaseFault → Type 0
 IsRefusedFor p (Refused r) = IsFirst (HasTooMany p) r
 IsRefusedFor p Memory = Unit {0}

@@ -19,8 +19,8 @@ use wf_text::{MethodId, PhaseFault, Refusal, Rule};
 const MOST_POINTS: usize = 1024;
 
 /// The suspension points of a package. Refused by L9 at the first token of the 1,025th point of a method; where several
-/// methods have so many, the one whose 1,025th point stands first decides. `Memory` where memory was refused. It takes time in proportion to the package's
-/// statements, and recurses as deep as these stand inside one another.
+/// methods have so many, by the first refusal. `Memory` where memory was refused. It takes time in proportion to the
+/// package's statements, and recurses as deep as these stand inside one another.
 pub fn points(alloc: Global, t: &Typed) -> Result<Points, PhaseFault>
     requires { IsTyped t.now }
     ensures numbers { IfOk result (λ points. (s : ℕ) → number_at points.numbers s ≡ point_number (package_of t.now).methods s) }

@@ -15,7 +15,7 @@ pub fn each_statement_stands_once()
     ensures methods { (nodes : TypedNodes) (s : ℕ) → IsTyped nodes → s < length nodes.stmts → StandsIn (package_of nodes).methods s }
 {}
 
-/// The points of each method of a typed package have the numbers 1, 2 and so on in order of place.
+/// The points of each method of a typed package are numbered from 1 on, as their places come.
 pub fn each_point_has_its_number()
     ensures { (nodes : TypedNodes) (m i : ℕ) (method : MethodTree) (point : Site)
         → IsTyped nodes

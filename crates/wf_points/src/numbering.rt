@@ -1,6 +1,6 @@
 // The table of the points' numbers, by statement.
 
-ghost use Rattle.std.specs.Prelude.{◌≡◌, ℕ, ◌<◌, ◌≤◌, ◌+◌, OnOk, IfOk, IfNone, length, vec_len, Some, None, Option};
+ghost use Rattle.std.specs.Prelude.{◌≡◌, ℕ, ◌<◌, ◌≤◌, ◌+◌, OnOk, length, vec_len, Some, None, Option};
 ghost use Rattle.wf_points.specs.PointNumbers.{number_at, earlier, most_points};
 ghost use Rattle.wf_points.specs.FoundPoints.{numbered_from, only_at};
 

@@ -15,10 +15,8 @@ pub(crate) fn find_saved(alloc: Global, locals: &[Var]) -> Result<Sequence<Local
     let mut saved = Sequence::new(alloc);
     for x in 0..locals.len() {
         if !matches!(locals[x].ty, Ty::Slice(_)) {
-            match u32::try_from(x) {
-                Ok(number) => saved.push(LocalId(number))?,
-                Err(_) => return Err(AllocError),
-            }
+            let number = u32::try_from(x).map_err(|_| AllocError)?;
+            saved.push(LocalId(number))?;
         }
     }
     Ok(saved)

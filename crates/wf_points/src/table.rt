@@ -23,8 +23,8 @@ impl Model for Points {
 }
 
 impl Points {
-    /// The number of a suspension point among those of its method, which have the numbers 1, 2 and so on in order of
-    /// place; None for every other statement. It takes constant time.
+    /// The number of a suspension point among those of its method, which are counted from 1 on as their places come;
+    /// None for every other statement. It takes constant time.
     pub fn number_of(&self, s: StmtId) -> Option<u32>
         ensures { result ≡ number_at self.now.numbers s.0 }
     {

@@ -6,14 +6,14 @@ use Rattle.wf_text.specs.declared.rules.Refusal.{Refusal}
 use Rattle.wf_text.specs.Precedence.{is_before}
 use Rattle.wf_ast.specs.declared.parsed.Name.{Name}
 use Rattle.wf_ast.specs.ParsedTree as tree
-use Rattle.wf_ast.specs.ParsedTree.{ExprTree, GivenTrees, CallTree, DeclTree}
+use Rattle.wf_ast.specs.ParsedTree.{ExprTree, GivenTrees, CallTree}
 use Rattle.wf_names_rules.specs.Declarations.{Variable, Structure, Method, Declared, is_spelt}
 use Rattle.wf_names_rules.specs.Uses as uses
 use Rattle.wf_names_rules.specs.Uses.{Use, Scope, sites}
 use Rattle.wf_names_rules.specs.Meanings.{GivenValue, given_values, call_name, call_args}
 use Rattle.wf_names_rules.specs.Jumps.{Jump, labelled, to_label, to_innermost, block_jumps}
 use Rattle.wf_names_rules.specs.NameRules as rules
-use Rattle.wf_names_rules.specs.NameRules.{twice, IsUsed, IsRepeated, variable_names, names_owned, IsStructure, IsMethod, AreApart, declared_names, later_of, Jumps, given_names, IsSizedHere, DeclarationBreaks, UseBreaks, LabelBreaks, CycleBreaks, SizeBreaks, Breaks}
+use Rattle.wf_names_rules.specs.NameRules.{twice, IsUsed, IsRepeated, variable_names, names_owned, IsStructure, IsMethod, AreApart, declared_names, Jumps, given_names, IsSizedHere, DeclarationBreaks, UseBreaks, LabelBreaks, CycleBreaks, SizeBreaks, Breaks}
 use Rattle.wf_read_laws.specs.Places.{NameIsIn, PathIsIn, ExprIsIn, GivenAreIn, CallIsIn}
 use Rattle.wf_read_laws.proofs.ListLemmas.{all-at, all-append, all-behind, all-mapped, all-flat}
 use Rattle.wf_read_laws.proofs.DeclaredPlaces.{VariableIsIn, VariablesAreIn, ConstantIsIn, StructureIsIn, MethodIsIn, DeclaredIsIn}

@@ -1,7 +1,7 @@
 -- What is judged to be wrong with a part stands where the part stands, rule by rule.
 use Rattle.std.proofs.Common.{true, ◌&&◌, [], Option, None, Some, IfSome, option_map, is_some}
 use Rattle.wf_text.specs.declared.place.Place.{Place}
-use Rattle.wf_ast.specs.TypedTrees.{sort_of}
+use Rattle.wf_ast.specs.TypedTrees.{operator_kind}
 use Rattle.wf_named.specs.declared.nodes.BaseType.TheVariants as bases
 use Rattle.wf_named.specs.NamedTree as tree
 use Rattle.wf_named.specs.NamedTree.{NamedExprTree, NamedPartTree, NamedTypeTree, NamedTargetTree, NamedBlockTree}
@@ -54,13 +54,13 @@ module _ (In : Place → Type 0) (s : Setting) where
       let ends = first_of (no_end (end_value s from)) (no_end (end_value s to)) in
       if-both In (is_some (variable s p.of) && (is_known (end_value s from) && is_known (end_value s to))) (first_of (at_if no_base p.at) ends)
       (first-in In (at_if no_base p.at) ends (at-if In no_base p.at h.0) (first-in In (no_end (end_value s from)) (no_end (end_value s to)) (end-in from h.1) (end-in to h.2)))
-  operand-kept (expression (tree.chain op first links at)) h = then-in (OperandsAreIn In) In (not_taken (sort_of op)) (taken-in In (sort_of op)) (operands s first links) (operands-in In s first links h.0 h.1)
+  operand-kept (expression (tree.chain op first links at)) h = then-in (OperandsAreIn In) In (not_taken (operator_kind op)) (taken-in In (operator_kind op)) (operands s first links) (operands-in In s first links h.0 h.1)
   operand-kept (expression (tree.convert e t at)) h = number-in e h.0
   operand-kept (expression (tree.negation e at)) h = at-if In _ (place_of e) (place-in In e h.0)
   operand-kept _ h = tt
 
   pub unfit-operand-kept : Keeps (unfit_operand s)
-  unfit-operand-kept (expression (tree.chain op first links at)) h = then-in (OperandsAreIn In) In (not_fitting (sort_of op)) (fitting-in In (sort_of op)) (operands s first links) (operands-in In s first links h.0 h.1)
+  unfit-operand-kept (expression (tree.chain op first links at)) h = then-in (OperandsAreIn In) In (not_fitting (operator_kind op)) (fitting-in In (operator_kind op)) (operands s first links) (operands-in In s first links h.0 h.1)
   unfit-operand-kept _ h = tt
 
   pub without-value-kept : Keeps (node_without_value s)
@@ -143,11 +143,11 @@ module _ (In : Place → Type 0) (s : Setting) where
       (front-in In value (Some []) (operand-in In (place_of e) (meaning s e) (place-in In e k)) tt)
 
   pub update-kept : Keeps (wrong_update s)
-  update-kept (assigned t (Some op) e) h = then-in (OperandsAreIn In) In (not_taken (sort_of op)) (taken-in In (sort_of op)) (updated s t e) (updated-in t e h.0 h.1)
+  update-kept (assigned t (Some op) e) h = then-in (OperandsAreIn In) In (not_taken (operator_kind op)) (taken-in In (operator_kind op)) (updated s t e) (updated-in t e h.0 h.1)
   update-kept _ h = tt
 
   pub unfit-update-kept : Keeps (unfit_update s)
-  unfit-update-kept (assigned t (Some op) e) h = then-in (OperandsAreIn In) In (not_fitting (sort_of op)) (fitting-in In (sort_of op)) (updated s t e) (updated-in t e h.0 h.1)
+  unfit-update-kept (assigned t (Some op) e) h = then-in (OperandsAreIn In) In (not_fitting (operator_kind op)) (fitting-in In (operator_kind op)) (updated s t e) (updated-in t e h.0 h.1)
   unfit-update-kept _ h = tt
 
   pub condition-kept : Keeps (wrong_condition s)

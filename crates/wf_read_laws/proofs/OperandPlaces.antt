@@ -4,7 +4,7 @@ use Rattle.std.specs.List.{AllByRecursion}
 use Rattle.wf_text.specs.declared.place.Place.{Place}
 use Rattle.wf_base.specs.declared.widths.Width.{Width}
 use Rattle.wf_ast.specs.TypedTree.{equal, differs}
-use Rattle.wf_ast.specs.TypedTrees.{Sort, arithmetic, ordering, joining}
+use Rattle.wf_ast.specs.TypedTrees.{OperatorKind, arithmetic, ordering, joining}
 use Rattle.wf_ast.specs.WellTyped.{is_shift}
 use Rattle.wf_named.specs.NamedTree as tree
 use Rattle.wf_named.specs.NamedTree.{NamedExprTree, NamedLinkTrees}
@@ -77,14 +77,14 @@ module _ (In : Place → Type 0) where
   compared-in [] a = tt
   compared-in (o ∷ os) a = either-in In (is_status o.of) (first_not is_status os) (not_of_one_width None (o ∷ os)) (first-not-in is_status os a.1) (one-width-in None (o ∷ os) a)
 
-  pub taken-in : (sort : Sort) (os : List Operand) → OperandsAreIn In os → IfSome (not_taken sort os) In
+  pub taken-in : (sort : OperatorKind) (os : List Operand) → OperandsAreIn In os → IfSome (not_taken sort os) In
   taken-in (arithmetic op) os a = either-in In (is_shift op) (not_shifted os) (not_of_one_width None os) (shifted-in os a) (one-width-in None os a)
   taken-in (ordering equal) os a = compared-in os a
   taken-in (ordering differs) os a = compared-in os a
   taken-in (ordering _) os a = one-width-in None os a
   taken-in (joining both) os a = first-not-in is_flag os a
 
-  pub fitting-in : (sort : Sort) (os : List Operand) → OperandsAreIn In os → IfSome (not_fitting sort os) In
+  pub fitting-in : (sort : OperatorKind) (os : List Operand) → OperandsAreIn In os → IfSome (not_fitting sort os) In
   fitting-in (arithmetic op) os a = either-in In (is_shift op) None (first_not (fits_width (common_width os)) os) tt (first-not-in (fits_width (common_width os)) os a)
   fitting-in (ordering op) os a = first-not-in (fits_width (common_width os)) os a
   fitting-in (joining both) os a = tt

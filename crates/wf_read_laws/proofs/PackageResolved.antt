@@ -56,8 +56,8 @@ module _ (In : Place → Type 0) where
   statuses-in : (bytes : ℕ → List ℕ) (names : List Name) → AllByRecursion (written.NameIsIn In) names → AllByRecursion (WordIsIn In) (map (word_of bytes) names)
   statuses-in bytes names a = all-mapped (WordIsIn In) (written.NameIsIn In) (word_of bytes) (λ n h. h) names a
 
-  pub package-in : (name : List ℕ) (texts : List (List ℕ)) (decls : List DeclTree) (order : List ℕ) → AllByRecursion (written.DeclIsIn In) decls → PackageIsIn In (resolved_package name texts decls order)
-  package-in name texts decls order a =
+  pub package-in : (name : List ℕ) (texts : List (List ℕ)) (decls : List DeclTree) (order struct_order : List ℕ) → AllByRecursion (written.DeclIsIn In) decls → PackageIsIn In (resolved_package name texts decls order struct_order)
+  package-in name texts decls order struct_order a =
       let d = declared texts decls in
       let there = declared-in In texts decls a in
       record {
@@ -68,4 +68,4 @@ module _ (In : Place → Type 0) where
       }
 
 pub resolving_keeps_places : ResolvingKeepsPlaces
-resolving_keeps_places test name texts decls order a = package-in (Where test) name texts decls order a
+resolving_keeps_places test name texts decls order struct_order a = package-in (Where test) name texts decls order struct_order a

@@ -10,8 +10,8 @@ use Rattle.wf_typed_tree.proofs.TypedOrder.{packages_keep_order}
 use Rattle.wf_read_laws.specs.ReadPackages.{PackagesResolveByGrammar, ReadPackagesStandInOrder}
 
 pub packages_resolve_by_grammar : PackagesResolveByGrammar
-packages_resolve_by_grammar name files p a order = resolving_keeps_form (declared p.texts (decls_of p)) p.name (decls_of p) order (packages_are_well_formed name files p a)
+packages_resolve_by_grammar name files p a order struct_order = resolving_keeps_form (declared p.texts (decls_of p)) p.name (decls_of p) order struct_order (packages_are_well_formed name files p a)
 
 pub read_packages_stand_in_order : ReadPackagesStandInOrder
-read_packages_stand_in_order name files p read order =
-    packages_keep_order (resolved_package p.name p.texts (decls_of p) order) (resolving_keeps_order p.name p.texts (decls_of p) order (reading_rises name files p read))
+read_packages_stand_in_order name files p read order struct_order =
+    packages_keep_order (resolved_package p.name p.texts (decls_of p) order struct_order) (resolving_keeps_order p.name p.texts (decls_of p) order struct_order (reading_rises name files p read))

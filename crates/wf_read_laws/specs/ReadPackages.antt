@@ -10,7 +10,7 @@ use Rattle.wf_names_resolve.specs.Package.{resolved_package}
 use Rattle.wf_typed_tree.specs.ElaboratedPackage.{typed_package}
 
 abbrev pub PackagesResolveByGrammar : Type 0
-PackagesResolveByGrammar = (name : List ℕ) (files : List (List ℕ)) (p : Parsed) → IsParsed name files p → (order : List ℕ) → package_by_grammar (resolved_package p.name p.texts (decls_of p) order) ≡ true
+PackagesResolveByGrammar = (name : List ℕ) (files : List (List ℕ)) (p : Parsed) → IsParsed name files p → (order struct_order : List ℕ) → package_by_grammar (resolved_package p.name p.texts (decls_of p) order struct_order) ≡ true
 
 abbrev pub ReadPackagesStandInOrder : Type 0
-ReadPackagesStandInOrder = (name : List ℕ) (files : List (List ℕ)) (p : Parsed) → IsParsed name files p → (order : List ℕ) → stand_in_order (typed_package (resolved_package p.name p.texts (decls_of p) order)) ≡ true
+ReadPackagesStandInOrder = (name : List ℕ) (files : List (List ℕ)) (p : Parsed) → IsParsed name files p → (order struct_order : List ℕ) → stand_in_order (typed_package (resolved_package p.name p.texts (decls_of p) order struct_order)) ≡ true

@@ -23,8 +23,8 @@ Where test at = test at ≡ true
 -- order its methods stand.
 abbrev pub ResolvingKeepsPlaces : Type 0
 ResolvingKeepsPlaces =
-    (test : Place → Bool) (name : List ℕ) (texts : List (List ℕ)) (decls : List DeclTree) (order : List ℕ)
-    → AllByRecursion (DeclIsIn (Where test)) decls → PackageIsIn (Where test) (resolved_package name texts decls order)
+    (test : Place → Bool) (name : List ℕ) (texts : List (List ℕ)) (decls : List DeclTree) (order struct_order : List ℕ)
+    → AllByRecursion (DeclIsIn (Where test)) decls → PackageIsIn (Where test) (resolved_package name texts decls order struct_order)
 
 -- What a package in a region breaks of the rules of types and effects stands there.
 abbrev pub RulesStandInPackages : Type 0
@@ -33,11 +33,11 @@ RulesStandInPackages = (test : Place → Bool) (p : NamedPackageTree) → Packag
 -- What declarations of so many files break of these rules, resolved, stands in one of these files.
 abbrev pub BreaksHaveFiles : Type 0
 BreaksHaveFiles =
-    (count : ℕ) (name : List ℕ) (texts : List (List ℕ)) (decls : List DeclTree) (order : List ℕ)
-    → AllByRecursion (IsOfFiles count) decls → (s : Refusal) → Breaks (resolved_package name texts decls order) s → s.at.file < count
+    (count : ℕ) (name : List ℕ) (texts : List (List ℕ)) (decls : List DeclTree) (order struct_order : List ℕ)
+    → AllByRecursion (IsOfFiles count) decls → (s : Refusal) → Breaks (resolved_package name texts decls order struct_order) s → s.at.file < count
 
 -- And so does what a package breaks that is read from files and resolved.
 abbrev pub PackagesBreakInFiles : Type 0
 PackagesBreakInFiles =
     (name : List ℕ) (files : List (List ℕ)) (p : Parsed) → IsParsed name files p
-    → (order : List ℕ) (s : Refusal) → Breaks (resolved_package p.name p.texts (decls_of p) order) s → s.at.file < length files
+    → (order struct_order : List ℕ) (s : Refusal) → Breaks (resolved_package p.name p.texts (decls_of p) order struct_order) s → s.at.file < length files

@@ -1,7 +1,7 @@
 // Worked examples: parsed trees that files have, and others that none has. Each is the contract of a function that does
 // nothing.
 
-ghost use Rattle.std.specs.Prelude.{◌≡◌, ◌^◌, true, false, None, Some, [], ◌∷◌, codes};
+ghost use Rattle.std.specs.Prelude.{◌≡◌, true, false, None, Some, [], ◌∷◌, codes};
 ghost use Rattle.std.specs.List.{list_all, list_any};
 ghost use Rattle.wf_ast.specs.declared.operators.Op.TheVariants.{Add, Mul, BitAnd, BitOr, BitXor, And, Or, Sub, Div, Rem, Shl, Shr, Same, Differs, Less, LessOrSame, Greater, GreaterOrSame, ModAdd, ModSub, ModMul, ModShl, SatAdd, SatSub};
 ghost use Rattle.wf_ast.specs.declared.parsed.WrittenMark.TheVariants.{Unmarked, Exclamation, Question};
@@ -37,5 +37,5 @@ pub fn statements_that_files_have()
 /// A package with a status, a constant, a struct and two methods is well formed, and resolved as the grammar gives.
 pub fn a_package_that_files_have()
     ensures formed { list_all well_formed counting_decls ≡ true }
-    ensures resolved { package_by_grammar (resolved_package (codes "count") counting_texts counting_decls (1 ∷ 0 ∷ [])) ≡ true }
+    ensures resolved { package_by_grammar (resolved_package (codes "count") counting_texts counting_decls (1 ∷ 0 ∷ []) (0 ∷ [])) ≡ true }
 {}

@@ -120,9 +120,9 @@ fn has_methods(typed: &Typed) -> bool {
     typed.methods() == 3 && run && add && twice
 }
 
-// Whether each method stands after those that it calls.
-fn has_order(typed: &Typed) -> bool {
-    typed.order() == [2, 1, 0].as_slice()
+// Whether each method stands after those that it calls, and each struct after those that its fields hold.
+fn has_orders(typed: &Typed) -> bool {
+    typed.order() == [2, 1, 0].as_slice() && typed.struct_order() == [1, 0].as_slice()
 }
 
 // Whether the body of the method with this number has these statements.
@@ -262,7 +262,7 @@ fn sums_are_told(alloc: Global) -> Result<bool, PhaseFault> {
 fn is_typed(alloc: Global) -> Result<bool, PhaseFault> {
     let typed = typed(alloc, DECLARED)?;
     let declared = has_statuses(&typed) && has_structs(&typed) && has_methods(&typed);
-    let stated = has_order(&typed) && has_bodies(&typed);
+    let stated = has_orders(&typed) && has_bodies(&typed);
     Ok(declared && stated && has_locals(&typed) && has_call(&typed))
 }
 

@@ -1,5 +1,5 @@
 -- What a script's own types say in the words of its definition, and what reading one answers.
-use Rattle.std.specs.Prelude.{◌≡◌, ⊤, ℕ, List, map, Result, Ok, Err}
+use Rattle.std.specs.Prelude.{◌≡◌, ⊤, map, Result, Ok, Err}
 use Rattle.wf_text.specs.HostActions.{init, call, put, close, compact}
 use Rattle.wf_bufs.specs.HostViews.{arg_of}
 use Rattle.wf_script_rules.specs.declared.rules.XRule.{XRule}

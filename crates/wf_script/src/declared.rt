@@ -66,7 +66,7 @@ fn shown(thing: Thing) -> Result<Thing, XRule>
 
 impl Declared {
     ghost use Rattle.std.specs.Prelude.{◌≡◌, ◌+◌, ◌<◌, ◌≤◌, length, nat_lt, slice_get, IfOk, OnOk};
-    ghost use Rattle.std.specs.Option.{ok_or, option_map};
+    ghost use Rattle.std.specs.Option.{option_map};
     ghost use Rattle.wf_bufs.specs.SurfaceViews.{receiver_of};
     ghost use Rattle.wf_script_rules.specs.declared.rules.XRule.TheVariants.{X2, X4};
     ghost use Rattle.wf_script_rules.specs.Words.{demand};

@@ -103,10 +103,7 @@ impl Names {
     pub fn thing(&self, word: &[u8]) -> Option<Thing>
         ensures { result ≡ thing_named word.now self.now }
     {
-        match self.find(word) {
-            Some(it) => Some(it.thing),
-            None => None,
-        }
+        Some(self.find(word)?.thing)
     }
 
     fn find_thing(&self, thing: Thing) -> Option<&NameDecl>

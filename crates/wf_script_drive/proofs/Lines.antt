@@ -7,7 +7,7 @@ use Rattle.std.proofs.lemmas.Bool.{cases_Bool, cases_cond, cond-true, cond-false
 use Rattle.std.proofs.lemmas.Option.{same_Some}
 use Rattle.std.proofs.lemmas.List.Elements.{All-nil, All-push, All-weaker}
 use Rattle.wf_text.specs.Surface.{Surface, PublicStruct, PublicMethod, PublicArg, ArgKind, number, flag, reader, writer, slice}
-use Rattle.wf_text.specs.HostActions.{HostArg, HostAction, init, call, put, close, compact, replace, Receiver}
+use Rattle.wf_text.specs.HostActions.{HostArg, init, call, put, close, compact, replace, Receiver}
 use Rattle.wf_text.specs.HostActions as host
 use Rattle.wf_base.specs.BaseOps.{AreBytes}
 use Rattle.wf_base.specs.HostRun.{HostCall}

@@ -161,10 +161,7 @@ fn method_in(it: &StructDecl, number: MethodId) -> Option<&MethodDecl>
 fn method_of(surface: &PublicSurface, decl: ReceiverDecl, number: MethodId) -> Option<&MethodDecl>
     ensures { option_copied result ≡ method_of surface.now number.0 (receiver_of decl) }
 {
-    match struct_numbered(surface, decl.of) {
-        Some(it) => method_in(it, number),
-        None => None,
-    }
+    method_in(struct_numbered(surface, decl.of)?, number)
 }
 
 pub(crate) fn method_name<'s>(

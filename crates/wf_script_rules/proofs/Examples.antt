@@ -1,18 +1,13 @@
 -- Small scripts and what they are: computed from the definition.
-use Rattle.std.proofs.Common.{◌≡◌, ℕ, List, [], ◌∷◌, ◌++◌, true, false, Result, Ok, Err, refl, codes, Option, Some, None}
-use Rattle.wf_text.specs.Surface.{Surface, PublicStruct, PublicMethod, PublicArg, status, number, reader, writer, slice}
-use Rattle.wf_text.specs.HostActions.{HostAction, init, put, call, io, Receiver}
-use Rattle.wf_base.specs.BaseOps.{Buffer}
-use Rattle.wf_script_rules.specs.declared.rules.XRule.{XRule}
+use Rattle.std.proofs.Common.{◌≡◌, ℕ, List, [], ◌∷◌, ◌++◌, Err, refl, codes}
+use Rattle.wf_text.specs.Surface.{Surface, status, number, reader, writer}
+use Rattle.wf_text.specs.HostActions.{init, put, call}
 use Rattle.wf_script_rules.specs.declared.rules.XRule.TheVariants.{X1, X2, X3, X4, X5}
-use Rattle.wf_script_rules.specs.declared.rules.Thing.TheVariants as thing
 use Rattle.wf_script_rules.specs.Text.{lines_of, words_of}
-use Rattle.wf_script_rules.specs.Words.{number_up_to, bytes_spelt, verb_of}
-use Rattle.hex.specs.Hex.{decode_pairs}
-use Rattle.wf_script_rules.specs.Names.{Named, Declared}
-use Rattle.wf_script_rules.specs.Values.{new_name, known, known_struct, known_method, target_of, flag_value, io_value, bytes_value, number_value, arg_word, arg_value, with_arg, with_args, all_given, args_of}
-use Rattle.wf_script_rules.specs.Lines.{Command, declares, acts, shows, sets_turns, new_receiver, receiver_words, receiver_line, new_store, buffer_size, buffer_words, buffer_line, array_bytes, array_words, array_line, init_line, named_buffer, put_line, only_buffer, show_line, turns_line, call_line, line_of}
-use Rattle.wf_script_rules.specs.Scripts.{Numbered, Script, Refusal, read_line, read_lines, script_of}
+use Rattle.wf_script_rules.specs.Words.{number_up_to, verb_of}
+use Rattle.wf_script_rules.specs.Values.{new_name, known, known_struct, known_method, target_of, io_value, arg_word, arg_value, with_arg, with_args, all_given, args_of}
+use Rattle.wf_script_rules.specs.Lines.{new_receiver, receiver_words, receiver_line, new_store, buffer_size, buffer_words, buffer_line, init_line, turns_line, call_line, line_of}
+use Rattle.wf_script_rules.specs.Scripts.{read_line, read_lines, script_of}
 
 -- A package with one public struct `x` and one public coroutine, which reads and writes.
 pub two_ends : Surface

@@ -1,11 +1,11 @@
 -- The first line of a text, and the first word of a line.
-use Rattle.std.proofs.Common.{◌≡◌, ℕ, ◌+◌, ◌-◌, ◌<◌, ◌≤◌, suc, zero, Bool, true, false, not, ◌&&◌, List, [], ◌∷◌, length, take, drop, Option, Some, None, Result, Ok, Err, refl, sym, ◌∙◌, ap, subst, cond, eqb, nat_eq, slice_get, arith, add-one}
+use Rattle.std.proofs.Common.{◌≡◌, ℕ, ◌+◌, ◌-◌, ◌<◌, suc, Bool, true, false, not, ◌&&◌, List, [], ◌∷◌, length, take, drop, Some, None, Result, Ok, Err, refl, sym, ◌∙◌, ap, cond, eqb, nat_eq, slice_get, arith, add-one}
 use Rattle.std.specs.List.{position_or_len}
 use Rattle.std.proofs.lemmas.Bool.{eqb-true}
 use Rattle.std.proofs.lemmas.List.{nil_from_length}
 use Rattle.wf_script_rules.specs.declared.rules.XRule.{XRule}
 use Rattle.wf_script_rules.specs.declared.rules.XRule.TheVariants.{X3}
-use Rattle.wf_script_rules.specs.Text.{is_feed, is_return, is_blank, begins, in_front, lines_of, ends_word, words_of, is_over, without_return}
+use Rattle.wf_script_rules.specs.Text.{is_feed, is_return, is_blank, begins, in_front, lines_of, ends_word, words_of, without_return}
 use Rattle.wf_script_rules.specs.Values.{next_word, at_end}
 use Rattle.wf_script_rules.specs.Lines.{is_skipped}
 

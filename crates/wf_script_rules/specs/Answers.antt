@@ -1,6 +1,5 @@
 -- What calls answer for a reading: what it gives, or its refusal, unless memory was refused.
 use Rattle.std.specs.Prelude.{◌≡◌, ⊤, ℕ, List, Result, Ok, Err}
-use Rattle.std.specs.Borrow.{Bor}
 use Rattle.wf_script_rules.specs.declared.rules.XRule.{XRule}
 use Rattle.wf_script_rules.specs.declared.faults.LineFault.{LineFault}
 use Rattle.wf_script_rules.specs.declared.faults.LineFault.TheVariants.{Refused, Memory}

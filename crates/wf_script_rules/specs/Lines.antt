@@ -1,19 +1,19 @@
 -- What one line is: what it declares or sets, and its command, or the first rule that its words break.
-use Rattle.std.specs.Prelude.{ℕ, ◌+◌, ◌-◌, Bool, true, false, ◌&&◌, List, [], ◌∷◌, ◌++◌, length, map, Option, Some, None, Result, Ok, Err, nat_eq, nat_lt, nat_le, if◌then◌else◌}
+use Rattle.std.specs.Prelude.{ℕ, ◌+◌, Bool, true, false, List, [], ◌∷◌, ◌++◌, length, map, Result, Ok, Err, nat_eq, nat_lt, nat_le}
 use Rattle.std.specs.Option.{ok_or}
 use Rattle.wf_text.specs.HostActions.{HostAction, init, call, put, close, compact, Receiver}
 use Rattle.wf_text.specs.Surface.{Surface}
 use Rattle.wf_base.specs.BaseOps.{Buffer}
 use Rattle.wf_bufs.specs.HostViews.{arg_of}
 use Rattle.wf_script_rules.specs.declared.rules.XRule.{XRule}
-use Rattle.wf_script_rules.specs.declared.rules.XRule.TheVariants.{X1, X2, X3, X4, X5}
+use Rattle.wf_script_rules.specs.declared.rules.XRule.TheVariants.{X1, X3, X4}
 use Rattle.wf_script_rules.specs.declared.rules.Verb.{Verb}
 use Rattle.wf_script_rules.specs.declared.rules.Verb.TheVariants as verb
 use Rattle.wf_script_rules.specs.declared.rules.Thing.{Thing}
 use Rattle.wf_script_rules.specs.declared.rules.Thing.TheVariants as thing
 use Rattle.wf_script_rules.specs.Text.{begins}
 use Rattle.wf_script_rules.specs.Words.{◌>>=◌, demand, number_up_to, bytes_spelt, verb_of}
-use Rattle.wf_script_rules.specs.Names.{Named, Declared, stores}
+use Rattle.wf_script_rules.specs.Names.{Declared, stores}
 use Rattle.wf_script_rules.specs.Values.{next_word, at_end, new_name, known, known_receiver, known_buffer, known_struct, target_of, args_of}
 
 -- What a line that isn't skipped does.

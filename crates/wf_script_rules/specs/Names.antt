@@ -1,5 +1,5 @@
 -- What the lines of a script have declared, by which its next line is judged.
-use Rattle.std.specs.Prelude.{ℕ, ◌+◌, Bool, true, false, List, [], ◌∷◌, length, Option, Some, None, nat_eq, find}
+use Rattle.std.specs.Prelude.{ℕ, ◌+◌, Bool, false, List, [], length, Option, nat_eq, find}
 use Rattle.std.specs.Option.{option_map, option_map_or}
 use Rattle.std.specs.Str.{bytes_eq}
 use Rattle.wf_text.specs.HostActions.{Receiver}

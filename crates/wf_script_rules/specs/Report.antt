@@ -1,10 +1,10 @@
 -- The report of a script: a line for each command, from what is seen of its host actions.
-use Rattle.std.specs.Prelude.{ℕ, ◌-◌, Bool, true, false, List, [], ◌∷◌, ◌++◌, length, Option, Some, None, decimal, slice_get, if◌then◌else◌, codes, nat_eq}
+use Rattle.std.specs.Prelude.{ℕ, ◌-◌, Bool, true, false, List, [], ◌∷◌, ◌++◌, length, Some, decimal, slice_get, if◌then◌else◌, codes}
 use Rattle.std.specs.Option.{option_map_or, option_and_then}
 use Rattle.hex.specs.Hex.{encode_lower}
-use Rattle.wf_text.specs.HostActions.{HostArg, num, flag, io, bytes, HostAction, init, call, put, close, compact, replace, Receiver}
+use Rattle.wf_text.specs.HostActions.{HostArg, io, bytes, HostAction, init, call, put, close, compact, replace, Receiver}
 use Rattle.wf_text.specs.Seen.{Answer, status, num as number, flag as truth, nothing, SeenBuffer, Seen, answered, turns, undefined}
-use Rattle.wf_text.specs.Surface.{Surface, PublicMethod}
+use Rattle.wf_text.specs.Surface.{Surface}
 use Rattle.wf_base.specs.BaseOps.{Buffer}
 use Rattle.wf_base.specs.LawfulActions.{method_of}
 use Rattle.wf_script_rules.specs.declared.rules.Thing.{Thing}

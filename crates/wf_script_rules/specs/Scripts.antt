@@ -1,6 +1,6 @@
 -- What the bytes of a script are over a package's public surface: what it declares, and its commands; or its first
 -- refusal. Both are what one function gives, so a script has no two readings.
-use Rattle.std.specs.Prelude.{ℕ, ◌+◌, Bool, List, [], ◌∷◌, ◌++◌, length, map, Option, Some, None, Result, Ok, Err, nat_lt, if◌then◌else◌}
+use Rattle.std.specs.Prelude.{ℕ, ◌+◌, List, [], ◌∷◌, ◌++◌, length, map, Result, Ok, Err, nat_lt, if◌then◌else◌}
 use Rattle.wf_text.specs.HostActions.{HostAction, replace}
 use Rattle.wf_text.specs.Surface.{Surface}
 use Rattle.wf_base.specs.BaseOps.{Buffer, empty_buffer}
@@ -10,7 +10,7 @@ use Rattle.wf_script_rules.specs.declared.rules.XRule.TheVariants.{X4}
 use Rattle.wf_script_rules.specs.Text.{lines_of, words_of}
 use Rattle.wf_script_rules.specs.Words.{◌>>=◌}
 use Rattle.wf_script_rules.specs.Names.{Declared, nothing_declared}
-use Rattle.wf_script_rules.specs.Lines.{Command, declares, acts, shows, sets_turns, Line, is_skipped, line_of}
+use Rattle.wf_script_rules.specs.Lines.{Command, acts, Line, is_skipped, line_of}
 
 -- A command with the number of its line, from 1; skipped lines count.
 pub record Numbered : Type 0 where

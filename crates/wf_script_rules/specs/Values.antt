@@ -1,5 +1,5 @@
 -- The names and the arguments that a line gives, judged by what was declared.
-use Rattle.std.specs.Prelude.{ℕ, ◌-◌, ◌^◌, Bool, true, false, not, ◌&&◌, List, [], ◌∷◌, length, map, replicate, slice_get, slice_set, Option, Some, None, Result, Ok, Err, nat_eq, if◌then◌else◌, codes, find}
+use Rattle.std.specs.Prelude.{ℕ, ◌-◌, ◌^◌, Bool, true, false, not, ◌&&◌, List, [], ◌∷◌, length, replicate, slice_get, slice_set, Option, Some, None, Result, Ok, Err, nat_eq, if◌then◌else◌, codes, find}
 use Rattle.std.specs.List.{list_any, position}
 use Rattle.std.specs.Option.{is_some, is_none, ok_or}
 use Rattle.std.specs.Str.{bytes_eq}
@@ -9,7 +9,7 @@ use Rattle.wf_base.specs.LawfulActions.{struct_numbered}
 use Rattle.wf_bufs.specs.declared.calls.Arg.{Arg}
 use Rattle.wf_bufs.specs.declared.calls.Arg.TheVariants as arg
 use Rattle.wf_script_rules.specs.declared.rules.XRule.{XRule}
-use Rattle.wf_script_rules.specs.declared.rules.XRule.TheVariants.{X1, X2, X3, X4, X5}
+use Rattle.wf_script_rules.specs.declared.rules.XRule.TheVariants.{X2, X3, X5}
 use Rattle.wf_script_rules.specs.declared.rules.Thing.{Thing}
 use Rattle.wf_script_rules.specs.declared.rules.Thing.TheVariants as thing
 use Rattle.wf_script_rules.specs.Words.{◌>>=◌, demand, is_name, number_up_to, cut_at}
@@ -105,7 +105,7 @@ value_of names reader word = io_value names word
 value_of names writer word = io_value names word
 value_of names (slice bits) word = if nat_eq bits 8 then bytes_value names word else Err X3
 
--- At one word an unknown name (X2) decides before an argument that is given twice (X3), and this before all else.
+-- At one word an unknown name (X2) comes before an argument that is given twice (X3), and this before all else.
 abbrev pub unless_given : Bool → Result Arg XRule → Result Arg XRule
 unless_given false value = value
 unless_given true (Err X2) = Err X2

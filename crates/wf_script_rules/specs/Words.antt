@@ -1,17 +1,17 @@
 -- What a word spells: a name, a number, bytes, or a command.
-use Rattle.std.specs.Prelude.{ℕ, ◌+◌, ◌-◌, ◌*◌, Bool, true, false, not, ◌&&◌, ◌||◌, List, [], ◌∷◌, length, take, drop, Option, Some, None, Result, Ok, Err, nat_eq, nat_le, nat_lt, if◌then◌else◌, codes}
+use Rattle.std.specs.Prelude.{ℕ, ◌+◌, ◌-◌, ◌*◌, Bool, true, false, not, ◌&&◌, ◌||◌, List, [], ◌∷◌, take, drop, Option, Some, None, Result, Ok, Err, nat_eq, nat_le, nat_lt, if◌then◌else◌, codes}
 use Rattle.std.specs.List.{list_all, position}
 use Rattle.std.specs.Option.{option_map}
 use Rattle.std.specs.Str.{bytes_eq}
 use Rattle.hex.specs.Hex.{decode_of}
 use Rattle.hex.specs.declared.error.FromHexError.{FromHexError}
 use Rattle.wf_script_rules.specs.declared.rules.XRule.{XRule}
-use Rattle.wf_script_rules.specs.declared.rules.XRule.TheVariants.{X1, X2, X3, X4, X5}
+use Rattle.wf_script_rules.specs.declared.rules.XRule.TheVariants.{X3, X4}
 use Rattle.wf_script_rules.specs.declared.rules.Verb.{Verb}
 use Rattle.wf_script_rules.specs.declared.rules.Verb.TheVariants as verb
 use Rattle.wf_script_rules.specs.Text.{begins}
 
--- What follows a result: the first refusal decides.
+-- What follows a result; the first refusal stays.
 infixl 10 ◌>>=◌
 abbrev pub ◌>>=◌ : {E A B : Type 0} → Result A E → (A → Result B E) → Result B E
 Ok x >>= f = f x

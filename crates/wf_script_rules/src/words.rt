@@ -154,14 +154,10 @@ fn mark_at(mark: u8, word: &[u8]) -> Option<usize>
 pub fn cut_at(mark: u8, word: &[u8]) -> Option<(&[u8], &[u8])>
     ensures { option_map (λ parts. (parts.0.now, parts.1.now)) result ≡ cut_at mark word.now }
 {
-    match mark_at(mark, word) {
-        Some(k) => {
-            let (front, _) = word.split_at(k);
-            let (_, back) = word.split_at(k + 1);
-            Some((front, back))
-        }
-        None => None,
-    }
+    let k = mark_at(mark, word)?;
+    let (front, _) = word.split_at(k);
+    let (_, back) = word.split_at(k + 1);
+    Some((front, back))
 }
 
 /// The command with this word.

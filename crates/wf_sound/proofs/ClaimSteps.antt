@@ -7,7 +7,7 @@ use Rattle.std.proofs.lemmas.Bool.{and_parts}
 use Rattle.turns.specs.Run.{Go, Fail}
 use Rattle.wf_text.specs.declared.place.Place.{Place}
 use Rattle.wf_text.specs.declared.rules.Rule.TheVariants.{B6, B7}
-use Rattle.wf_ast.specs.TypedTree.{NumTree, CondTree, Site, Block}
+use Rattle.wf_ast.specs.TypedTree.{NumTree, CondTree, Block}
 use Rattle.wf_ast.specs.TypedTree as typed
 use Rattle.wf_ast.specs.Value.{State, truth_of}
 use Rattle.wf_ast.specs.WellTyped.{Context, well_cond, well_num, well_axiom}

@@ -26,7 +26,7 @@ use Rattle.wf_loops.proofs.LawLemmas.{entered, broken, tested}
 use Rattle.wf_meaning.specs.SourceState.{Behind, stop, behind_if, again, Remaining}
 use Rattle.wf_meaning.specs.Remaining.{Marker, marker_of}
 use Rattle.wf_meaning.specs.World.{World, Body, Vars}
-use Rattle.wf_meaning.specs.SourceStep.{At, Ending, Steps, state_of, at_block, with_some, where_true, either, at_head, at_exit, is_true, all_hold, entered_loop, taking_turn, went_back, chosen, continued, is_result}
+use Rattle.wf_meaning.specs.SourceStep.{At, Ending, Steps, state_of, at_block, with_some, at_head, at_exit, is_true, all_hold, entered_loop, taking_turn, went_back, chosen, continued}
 use Rattle.wf_meaning.specs.SourceStep as steps
 use Rattle.wf_bounds_stmts.specs.Statements.{branches}
 use Rattle.wf_bounds_stmts.specs.Requirements.{limits}

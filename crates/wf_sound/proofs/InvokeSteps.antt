@@ -26,7 +26,7 @@ use Rattle.wf_facts.specs.FactLists.{without}
 use Rattle.wf_meaning.specs.SourceState.{Behind, Remaining, Done, untouched, has_bytes, to_skip, to_write, has_yielded}
 use Rattle.wf_meaning.specs.Entry.{Answered, returned, suspended}
 use Rattle.wf_meaning.specs.World.{World, Body, Vars, put_value}
-use Rattle.wf_meaning.specs.SourceStep.{At, Ending, gives, Steps, Call, Callees, state_of, at_block, with_some, either, is_result, values_of, receiver_of, through, put_answer, kept_status, plain_answer, handed_on, after_call}
+use Rattle.wf_meaning.specs.SourceStep.{At, Ending, gives, Steps, Callees, state_of, at_block, with_some, is_result, values_of, receiver_of, through, put_answer, kept_status, plain_answer, handed_on, after_call}
 use Rattle.wf_meaning.specs.SourceStep as steps
 use Rattle.wf_meaning.specs.Remaining.{hands_on}
 use Rattle.wf_bounds_stmts.specs.Requirements.{number_type, all_handed}

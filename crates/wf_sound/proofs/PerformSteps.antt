@@ -30,7 +30,7 @@ use Rattle.wf_facts.specs.FactLists.{without}
 use Rattle.wf_facts.specs.Forms.{number_in}
 use Rattle.wf_meaning.specs.SourceState.{Held, held_num, held_truth, held_status, held_cells, held_part, Behind, Remaining}
 use Rattle.wf_meaning.specs.World.{World, Body, Vars, held_at, cells_at, with_cells, fits_store, put_value}
-use Rattle.wf_meaning.specs.SourceStep.{Ending, Steps, state_of, at_block, with_some, change_buffer, io_of, elements_of, are_bytes, copied_to_writer, copied_to_slice, skipped_fast, written_fast, with_target}
+use Rattle.wf_meaning.specs.SourceStep.{Ending, state_of, at_block, with_some, change_buffer, elements_of, are_bytes}
 use Rattle.wf_meaning.specs.SourceStep as steps
 use Rattle.wf_bounds_stmts.specs.Requirements.{place_of_number, handed_refusal, all_handed}
 use Rattle.wf_bounds_stmts.specs.Targets.{taken_by, target_refusal, written_by, unwritten, holds_all, answer_refusal}

@@ -1,24 +1,23 @@
-// The law of one step. Each function speaks of the rule of one statement, with any lists at the ends of the statement's
-// blocks, and of one step of a body that stands at it. It supposes that the rule refuses nothing at the statement, that all
+// The law of one step. Each function speaks of one statement's rule, whatever lists are known where the statement's blocks
+// end, and of one step of a body that stands at it. It supposes that the rule refuses nothing at the statement, that all
 // values lie in their types, that the facts before the statement are true (at a resumption those that are known after its
 // drops), and that the method that the statement calls runs well from where the body stands. Then the step isn't stuck, values
 // lie in their types again, and what the rule gives for the place that the step comes to is true.
 
-ghost use Rattle.std.specs.Prelude.{◌≡◌, ◌∷◌, ℕ, Bool, true, List, [], Option, Some, None, slice_get};
+ghost use Rattle.std.specs.Prelude.{◌≡◌, ◌∷◌, ℕ, Bool, true, List, [], Some, None, slice_get};
 ghost use Rattle.wf_text.specs.declared.place.Place.{Place};
 ghost use Rattle.wf_ast.specs.TypedTree.{CondTree, Simple, Site, Head, Block, end, plain, choose, loop as repeating};
-ghost use Rattle.wf_ast.specs.WellTyped.{well_cond};
 ghost use Rattle.wf_facts_exprs.specs.Claims.{Claim, AllTrue};
 ghost use Rattle.wf_loops.specs.LoopRules.{way_back_refusal};
 ghost use Rattle.wf_bounds_stmts.specs.Statements.{single, branches, repeated};
 ghost use Rattle.wf_bounds_stmts.specs.FactRules.{Known, statement_refusal, ends_refusal, behind as known_after};
-ghost use Rattle.wf_meaning.specs.SourceState.{Behind, stop, behind_if, again, Remaining, untouched, Done};
+ghost use Rattle.wf_meaning.specs.SourceState.{Behind, stop, behind_if, again, untouched, Done};
 ghost use Rattle.wf_meaning.specs.World.{Body, Vars};
 ghost use Rattle.wf_meaning.specs.SourceStep.{Callees, state_of, step};
 ghost use Rattle.wf_sound.specs.Worlds.{Shape, context_of};
 ghost use Rattle.wf_sound.specs.Positions.{around, hands_on_well};
 ghost use Rattle.wf_sound.specs.Callees.{CalleesRun};
-ghost use Rattle.wf_sound.specs.OneStep.{IsReached, ComesTo, StandsBefore, StandsKnowing, IsLeftAt, IsLeftBy, Ends, NeverLeft, LeadsTo, Chooses, Tests, IsRunning, AreFactsOf, AreKnown};
+ghost use Rattle.wf_sound.specs.OneStep.{IsReached, ComesTo, StandsKnowing, IsLeftAt, IsLeftBy, Ends, NeverLeft, LeadsTo, Chooses, Tests, IsRunning, AreFactsOf, AreKnown};
 
 /// A statement without blocks: its step goes on where the rule gives what is known, leaves its method with an answer, or
 /// leaves it to be resumed at the statement.

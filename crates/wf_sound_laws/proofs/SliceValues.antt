@@ -11,7 +11,7 @@ use Rattle.wf_base.specs.BaseTable.{bits_of}
 use Rattle.wf_ast.specs.declared.types.Ty.{Ty}
 use Rattle.wf_ast.specs.declared.types.Ty.TheVariants as types
 use Rattle.wf_ast.specs.TypedTree.{Path, arg, Order, equal, differs, less, at_most, greater, at_least, SliceTree, slice, array, cut, ValueTree, numeric, logical, state, elements, io, lost, Target, to_slice}
-use Rattle.wf_ast.specs.TypedTrees.{Sort, arithmetic, ordering, joining, slice_in, named, comparison, chain_of, answer_of}
+use Rattle.wf_ast.specs.TypedTrees.{OperatorKind, arithmetic, ordering, joining, slice_in, named, comparison, chain_of, answer_of}
 use Rattle.wf_ast.specs.WellTyped.{Context, type_at, is_unrefined, is_slice, element_type, well_slice, fits_type, may_write, well_assigned}
 use Rattle.wf_named.specs.declared.nodes.NamedCallee.TheVariants as callees
 use Rattle.wf_named.specs.declared.nodes.Variable.{Variable}
@@ -150,7 +150,7 @@ compared-none at sign at_most t u = refl
 compared-none at sign greater t u = refl
 compared-none at sign at_least t u = refl
 
-pub chained-none : (at : Place) (signs : List Place) (ty : Ty) (sort : Sort) (t : ValueTree) (ts : List ValueTree) → is_elements (chain_of at signs ty sort (t ∷ ts)) ≡ false
+pub chained-none : (at : Place) (signs : List Place) (ty : Ty) (sort : OperatorKind) (t : ValueTree) (ts : List ValueTree) → is_elements (chain_of at signs ty sort (t ∷ ts)) ≡ false
 chained-none at signs ty (arithmetic op) t ts = refl
 chained-none at signs ty (joining both_hold) t ts = refl
 chained-none at signs ty (ordering op) t [] = refl

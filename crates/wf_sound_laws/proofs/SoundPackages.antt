@@ -57,7 +57,7 @@ nodes-accepted named typed well grammar is kept none =
     accepted-nodes typed kept none (subst M (sym is.tree) (typed-made (named_package named) well grammar is.kept)) (subst S (sym is.tree) (arrays-short (named_package named)))
 
 pub read-never-stuck : ReadPackagesAreNeverStuck
-read-never-stuck name files read parsed names order ordered types bounds =
-    let p : NamedPackageTree = resolved_package read.name read.texts (decls_of read) order in
-    let named = package-named read.name read.texts (decls_of read) order names ordered in
-    kept-never-stuck p (packages_resolve_by_grammar name files read parsed order) (record { named = named; types = types; bounds = bounds })
+read-never-stuck name files read parsed names order struct_order ordered types bounds =
+    let p : NamedPackageTree = resolved_package read.name read.texts (decls_of read) order struct_order in
+    let named = package-named read.name read.texts (decls_of read) order struct_order names ordered in
+    kept-never-stuck p (packages_resolve_by_grammar name files read parsed order struct_order) (record { named = named; types = types; bounds = bounds })

@@ -10,9 +10,9 @@ use Rattle.wf_base.specs.declared.base_methods.BaseSig.{BaseSig}
 use Rattle.wf_base.specs.declared.base_methods.BaseSig.TheVariants as sigs
 use Rattle.wf_base.specs.BaseTable.{row_of}
 use Rattle.wf_ast.specs.declared.operators.Op.{Op}
-use Rattle.wf_ast.specs.TypedTree.{ValueTree, Target, to_nothing, Called, own, sub, assign, Simple, Site, Head, Block, end, plain, choose}
+use Rattle.wf_ast.specs.TypedTree.{ValueTree, Target, to_nothing, Called, own, sub, assign, Simple, Site, Block, end, plain}
 use Rattle.wf_ast.specs.TypedTree as typed
-use Rattle.wf_ast.specs.TypedTrees.{sort_of, slice_in, cond_in, answer_of, base_call}
+use Rattle.wf_ast.specs.TypedTrees.{operator_kind, slice_in, cond_in, answer_of, base_call}
 use Rattle.wf_ast.specs.TypedPackage.{Variable, MethodTree, PackageTree}
 use Rattle.wf_ast.specs.Value.{same_truth}
 use Rattle.wf_ast.specs.WellTyped.{is_unrefined, is_pure, element_type, same_mark, calls_method, fits_type, fit_types, well_cond, well_invoked, well_simple, breaks, well_block, may_be_arg, may_be_local, may_be_result, answers_always, well_method, all_structs_whole, well_typed}
@@ -137,7 +137,7 @@ module _ (p : NamedPackageTree) (n : ℕ) (m : NamedMethodTree) (is : MethodIs p
       → named_expr (names p n m is) e ≡ true → well_simple (context p n m is) loops (assign_tree (around p n m is) t op sign e) ≡ true
       → hands_on_well (assign_tree (around p n m is) t op sign e) ≡ true
   assign-hands loops t None sign e h w well = value-hands loops t sign e (fine-split p (around p n m is) (target_parts t) (value_parts None e) h).1 w well
-  assign-hands loops t (Some op) sign e h w well = none-handed (update_tree (around p n m is) t op sign e) (chained-none sign _ _ (sort_of op) _ _)
+  assign-hands loops t (Some op) sign e h w well = none-handed (update_tree (around p n m is) t op sign e) (chained-none sign _ _ (operator_kind op) _ _)
 
   plain-made : (loops : List ℕ) (at : Site) (s : Simple) (rest : Block) → well_block (context p n m is) loops (plain at s rest) ≡ true
       → (well_simple (context p n m is) loops s ≡ true → hands_on_well s ≡ true) → well_made rest ≡ true → well_made (plain at s rest) ≡ true

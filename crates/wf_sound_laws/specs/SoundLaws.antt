@@ -60,7 +60,7 @@ TypedNodesAreAccepted =
 abbrev pub ReadPackagesAreNeverStuck : Type 0
 ReadPackagesAreNeverStuck =
     (name : List ℕ) (files : List (List ℕ)) (read : Parsed) → IsParsed name files read → Decides (names.Breaks (declared read.texts (decls_of read))) None
-    → (order : List ℕ) → HasOrder (resolved_package read.name read.texts (decls_of read) order)
-    → Decides (types.Breaks (resolved_package read.name read.texts (decls_of read) order)) None
-    → bounds_refusal (resolved_package read.name read.texts (decls_of read) order) ≡ None
-    → IsNeverStuck (typed_package (resolved_package read.name read.texts (decls_of read) order))
+    → (order struct_order : List ℕ) → HasOrder (resolved_package read.name read.texts (decls_of read) order struct_order)
+    → Decides (types.Breaks (resolved_package read.name read.texts (decls_of read) order struct_order)) None
+    → bounds_refusal (resolved_package read.name read.texts (decls_of read) order struct_order) ≡ None
+    → IsNeverStuck (typed_package (resolved_package read.name read.texts (decls_of read) order struct_order))

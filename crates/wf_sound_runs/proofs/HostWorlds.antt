@@ -8,7 +8,7 @@ use Rattle.std.proofs.lemmas.Bool.Decides.{nat_tests}
 use Rattle.std.proofs.lemmas.List.Elements.{All-take, All-drop, All-replicate}
 use Rattle.std.proofs.lemmas.Option.{slice_get-map}
 use Rattle.std.proofs.lemmas.List.{length-replicate}
-use Rattle.wf_base.specs.BaseOps.{Buffer, AreBytes, capacity}
+use Rattle.wf_base.specs.BaseOps.{Buffer, AreBytes}
 use Rattle.wf_base.specs.BaseOps as ops
 use Rattle.wf_base.specs.HostRun.{Host}
 use Rattle.wf_ast.specs.declared.types.Ty.{Ty}

@@ -96,7 +96,7 @@ module _ (places : ℕ → ℕ → Place) (p : PackageTree) (accepted : IsAccept
       let a = and_parts (all_structs_whole p 0 p.structs) _ h in
       let b = and_parts (list_all (well_method p) p.methods) _ a.1 in
       let c = and_parts (nat_eq (length p.order) (length p.methods)) _ b.1 in
-      record { long = grind (arith, nat_tests, c.0); calls = c.1 }
+      record { long = grind (arith, nat_tests, c.0); calls = (and_parts (calls_in_front p [] p.order) _ c.1).0 }
 
   module _ (structs lens : List ℕ) (buffers : ℕ) (objects : List Object) (h : Host) (well : ObjectsLawful p structs objects) (lawful : HostLawful p lens buffers h) (short : (a len : ℕ) → slice_get lens a ≡ Some len → len < 2 ^ 64) where
     abbrev shape : Shape

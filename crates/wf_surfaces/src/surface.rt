@@ -1,10 +1,10 @@
 // The public surface of a typed package.
 
-ghost use Rattle.std.specs.Prelude.{◌≡◌, ◌<◌, ◌&&◌, map, nat_eq, slice_get, length, IfOk, All};
+ghost use Rattle.std.specs.Prelude.{◌≡◌, ◌<◌, ◌&&◌, map, nat_eq, length, IfOk};
 ghost use Rattle.wf_ast.specs.TypedTrees.{text_of};
 ghost use Rattle.wf_ast.specs.declared.typed_code.Block.{Block};
 ghost use Rattle.wf_ast.specs.TypedInvariant.{IsTyped};
-ghost use Rattle.wf_ast.specs.TypedPackage.{kind_of, method_of, methods_of, package_of, public_method, public_methods, public_structs, struct_of, surface_of, variable_of};
+ghost use Rattle.wf_ast.specs.TypedPackage.{kind_of, method_of, package_of, public_method, public_methods, public_structs, surface_of, variable_of};
 ghost use Rattle.wf_surfaces.specs.Names.{AreNamed, HasNames, IsNamed};
 
 use crate::kinds::{answer_kind, arg_kind};

@@ -1,4 +1,4 @@
--- Which of two refusals decides: the one at the least place, and of one place the rule that is named first.
+-- The first refusal: of all that is broken, by place, and of one place by the rule that is named first.
 use Rattle.std.specs.Prelude.{ℕ, Bool, List, [], ◌∷◌, Option, Some, None, option_map, ◌≡◌, false, nat_eq, nat_lt, if◌then◌else◌}
 use Rattle.wf_text.specs.declared.place.Place.{Place}
 use Rattle.wf_text.specs.declared.rules.Refusal.{Refusal}
@@ -53,11 +53,11 @@ rank L7 = 42
 rank L8 = 43
 rank L9 = 44
 
--- Below, where two numbers that are the same leave it to what comes next.
+-- Whether one number is below another; where the two are equal, what comes next tells.
 abbrev pub then_by : ℕ → ℕ → Bool → Bool
 then_by a b next = if nat_eq a b then next else nat_lt a b
 
--- The first refusal decides over the second: by file, line and column, then by rule.
+-- The one refusal is before the other: by file, line and column, then by rule.
 unfoldable pub is_before : Refusal → Refusal → Bool
 is_before r s =
     then_by r.at.file s.at.file
@@ -82,7 +82,7 @@ refused rule at = record { rule = rule; at = at }
 abbrev pub told : Rule → Option Place → Option Refusal
 told rule at = option_map (refused rule) at
 
--- Of the refusals that a package gives cause for, none decides over this one.
+-- Of the refusals that a package gives cause for this is the first: none is before it.
 pub record IsFirst (Breaks : Refusal → Type 0) (r : Refusal) : Type 0 where
   pub breaks : Breaks r
   pub first : (s : Refusal) → Breaks s → is_before s r ≡ false

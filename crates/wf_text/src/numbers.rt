@@ -8,7 +8,7 @@ pub struct StructId(pub u32);
 #[derive(Clone, Copy, PartialEq, Eq)]
 pub struct MethodId(pub u32);
 
-/// A status: 0 is ok, 1 to 9 are the base statuses in the language's order, and the package's own follow
-/// in order of declaration.
+/// A status: 0 is ok; the base statuses, as the language has them in order, come from 1 to 9; those of the package after
+/// them, as they are declared.
 #[derive(Clone, Copy, PartialEq, Eq)]
 pub struct StatusId(pub u32);

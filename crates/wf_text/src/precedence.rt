@@ -1,4 +1,4 @@
-// Which of two refusals decides: the one at the least place, and of one place the rule that is named first.
+// Which of two refusals is first: of all that is broken by place, and of one place by the rule that is named first.
 
 ghost use Rattle.std.specs.Prelude.{◌≡◌};
 ghost use Rattle.wf_text.specs.Precedence.{is_before as comes_before, rank as rank_of, sooner as sooner_of};
@@ -12,7 +12,7 @@ fn rank(rule: Rule) -> u8
     rule as u8
 }
 
-/// Whether `first` decides over `second`: by file, line and column of its place, then by the order of the
+/// Whether `first` is before `second`: by file, line and column of its place, then by the order of the
 /// rules (by letter in the order of the phases, the limits last, then by number).
 #[tactic(auto, unfolding(crate::specs::Precedence::is_before))]
 pub fn is_before(first: Refusal, second: Refusal) -> bool

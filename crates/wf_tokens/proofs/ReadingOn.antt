@@ -5,7 +5,7 @@ use Rattle.wf_tokens.specs.declared.kinds.TokenKind.{TokenKind}
 use Rattle.wf_tokens.specs.declared.kinds.TokenKind.TheVariants as kind
 use Rattle.wf_tokens.specs.declared.symbols.Symbol.{Symbol}
 use Rattle.wf_tokens.specs.declared.symbols.Symbol.TheVariants as symbol
-use Rattle.wf_tokens.specs.Pieces.{IsName, IsText, IsPiece}
+use Rattle.wf_tokens.specs.Pieces.{IsText, IsPiece}
 use Rattle.wf_tokens.specs.Places.{behind_byte, behind_bytes}
 use Rattle.wf_tokens.specs.Spelling.{State, Item, Reads, ReadsPiece, MakesSemicolon, ReadsAll}
 
@@ -13,11 +13,6 @@ use Rattle.wf_tokens.specs.Spelling.{State, Item, Reads, ReadsPiece, MakesSemico
 pub reads_more : (old : State) (items : List Item) (between : State) (item : Item) (new : State) → ReadsAll old items between → Reads between item new → ReadsAll old (items ++ (item ∷ [])) new
 reads_more old [] between item new r s = (new, subst (λ (from : State). Reads from item new) (sym r) s, refl)
 reads_more old (first ∷ items) between item new r s = (r.0, r.1, reads_more r.0 items between item new r.2 s)
-
--- Tokens read one after the other, in two parts.
-pub reads_both : (old : State) (items : List Item) (between : State) (others : List Item) (new : State) → ReadsAll old items between → ReadsAll between others new → ReadsAll old (items ++ others) new
-reads_both old [] between others new r s = subst (λ (from : State). ReadsAll from others new) (sym r) s
-reads_both old (first ∷ items) between others new r s = (r.0, r.1, reads_both r.0 items between others new r.2 s)
 
 pub behind_bytes-append : (at : Place) (front back : List ℕ) → behind_bytes at (front ++ back) ≡ behind_bytes (behind_bytes at front) back
 behind_bytes-append at [] back = refl
@@ -38,9 +33,6 @@ same_end-all old (item ∷ items) new r = same_end-all r.0 items new r.2 ∙ sam
 pub text_or_symbol : (s : Symbol) → kind.Text ≡ kind.Symbol s → ⊥
 text_or_symbol s h = cc
 
-pub name_or_symbol : (s : Symbol) → kind.Name ≡ kind.Symbol s → ⊥
-name_or_symbol s h = cc
-
 -- The bytes of a text that was read are a text's, and so for a name.
 pub text_read : (old : State) (item : Item) (new : State) → Reads old item new → item.kind ≡ kind.Text → IsText item.text
 text_read old item new r is = by_case r.1
@@ -48,10 +40,3 @@ text_read old item new r is = by_case r.1
     by_case : ReadsPiece old item new ⊎ MakesSemicolon old item new → IsText item.text
     by_case (inl p) = subst (λ (k : TokenKind). IsPiece k item.text new.rest) is p.piece
     by_case (inr p) = absurd (text_or_symbol symbol.Semicolon (sym is ∙ ap (λ (i : Item). i.kind) p.made))
-
-pub name_read : (old : State) (item : Item) (new : State) → Reads old item new → item.kind ≡ kind.Name → IsName item.text
-name_read old item new r is = by_case r.1
-  where
-    by_case : ReadsPiece old item new ⊎ MakesSemicolon old item new → IsName item.text
-    by_case (inl p) = let piece : IsPiece kind.Name item.text new.rest = subst (λ (k : TokenKind). IsPiece k item.text new.rest) is p.piece in piece.spells
-    by_case (inr p) = absurd (name_or_symbol symbol.Semicolon (sym is ∙ ap (λ (i : Item). i.kind) p.made))

@@ -1,5 +1,5 @@
 -- How numbers are written: `0`, decimal digits that don't begin with 0, `0x` or `0X` with hexadecimal digits,
--- `0b` or `0B` with binary digits. Underscores may stand between digits.
+-- `0b` or `0B` with binary digits. Between two digits there may be underscores.
 use Rattle.std.specs.Prelude.{ℕ, ◌+◌, ◌-◌, ◌*◌, ◌≤◌, ◌<◌, ◌^◌, ◌≡◌, Bool, false, Option, Some, None, Result, Ok, Err, ◌||◌, ◌&&◌, List, [], ◌∷◌, nat_eq, nat_lt, if◌then◌else◌, slice_get, length, drop, is_some}
 use Rattle.std.specs.List.{list_all}
 use Rattle.std.specs.Option.{option_map_or}

@@ -1,7 +1,7 @@
 // Gaps: the blanks and comments before a token.
 
 ghost use Rattle.std.specs.Prelude.{◌≡◌, ◌≤◌, length, take, drop};
-ghost use Rattle.wf_tokens.specs.Gaps.{is_blank, is_slash, begins_comment, gap_goes_on, IsGap, ends_line};
+ghost use Rattle.wf_tokens.specs.Gaps.{is_blank, begins_comment, gap_goes_on, IsGap, ends_line};
 
 /// Space, tab and carriage return, and a line feed where no semicolon is due.
 fn is_blank(due: bool, byte: u8) -> bool
@@ -54,7 +54,7 @@ pub(crate) fn gap_len(due: bool, bytes: &[u8]) -> usize
 }
 
 /// Whether a line feed or nothing stands at the front.
-pub fn ends_line(bytes: &[u8]) -> bool
+pub(crate) fn ends_line(bytes: &[u8]) -> bool
     ensures { result ≡ ends_line bytes.now }
 {
     match bytes.first() {

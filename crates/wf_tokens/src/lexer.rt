@@ -35,7 +35,7 @@ impl<'a> Model for Lexer<'a> {
 }
 
 impl<'a> Lexer<'a> {
-    ghost use Rattle.std.specs.Prelude.{ℕ, ◌≡◌, ◌≤◌, ◌<◌, ◌+◌, length, true, IfSome, IfNone, IfOk, IfErr, OnOk};
+    ghost use Rattle.std.specs.Prelude.{◌≡◌, ◌≤◌, ◌<◌, ◌+◌, length, true, IfSome, IfNone, IfOk, IfErr, OnOk};
     ghost use Rattle.wf_tokens.specs.Spelling.{start, left, item_of, Reads, IsStuck, IsOver, TakesPiece, ends_statement};
     ghost use Rattle.wf_tokens.specs.Places.{behind_bytes};
     ghost use Rattle.wf_tokens.specs.Pieces.{IsFrontPiece};

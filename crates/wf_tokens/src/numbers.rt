@@ -1,7 +1,7 @@
-// Numbers: `0`, decimal digits that don't begin with 0, `0x` or `0X` with hexadecimal digits, `0b` or `0B` with
-// binary digits. Underscores may stand between digits.
+// Numbers: `0`, decimal digits that don't begin with 0, hexadecimal digits after `0x` or `0X`, binary ones after `0b` or
+// `0B`. Between two digits there may be underscores.
 
-ghost use Rattle.std.specs.Prelude.{ℕ, ◌≡◌, ◌≤◌, ◌<◌, ◌^◌, ◌||◌, length, IfSome};
+ghost use Rattle.std.specs.Prelude.{◌≡◌, ◌≤◌, ◌<◌, ◌^◌, ◌||◌, length, IfSome};
 ghost use Rattle.std.specs.Option.{SomeIff};
 ghost use Rattle.std.specs.List.{list_all};
 ghost use Rattle.wf_tokens.specs.Runs.{begins};

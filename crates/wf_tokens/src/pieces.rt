@@ -1,6 +1,6 @@
 // Pieces: the bytes of one token, the longest that can stand at the front.
 
-ghost use Rattle.std.specs.Prelude.{◌≡◌, ◌≤◌, ◌<◌, true, false, length, take, drop, IfOk, IfErr, ℕ};
+ghost use Rattle.std.specs.Prelude.{◌≡◌, ◌<◌, true, false, IfOk, IfErr};
 ghost use Rattle.std.specs.List.{list_all};
 ghost use Rattle.wf_tokens.specs.Runs.{is_run, is_digit, is_quote, begins};
 ghost use Rattle.wf_tokens.specs.Pieces.{IsFrontPiece, IsRefused, IsRunKind, RefusesRun};

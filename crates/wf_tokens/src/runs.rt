@@ -5,7 +5,7 @@ ghost use Rattle.std.specs.List.{list_all};
 ghost use Rattle.wf_tokens.specs.Runs.{is_letter, is_digit, is_run, is_quote, is_text_byte, begins, first_byte};
 
 /// A letter of ASCII, or `_`.
-pub fn is_letter(byte: u8) -> bool
+pub(crate) fn is_letter(byte: u8) -> bool
     ensures { result ≡ is_letter byte }
 {
     matches!(byte, b'a'..=b'z' | b'A'..=b'Z' | b'_')
@@ -19,14 +19,14 @@ pub fn is_digit(byte: u8) -> bool
 }
 
 /// A byte of names, words and numbers.
-pub fn is_run(byte: u8) -> bool
+pub(crate) fn is_run(byte: u8) -> bool
     ensures { result ≡ is_run byte }
 {
     is_letter(byte) || is_digit(byte)
 }
 
 /// A byte that may stand inside a text.
-pub fn is_text_byte(byte: u8) -> bool
+pub(crate) fn is_text_byte(byte: u8) -> bool
     ensures { result ≡ is_text_byte byte }
 {
     matches!(byte, b' '..=b'~') && byte != b'"' && byte != b'\\'

@@ -9,7 +9,7 @@ use crate::words::Word;
 
 /// Whether a line end, or the file's end, adds a semicolon after a token of this kind: after names, numbers,
 /// texts, closing brackets, and the words that can end a statement.
-pub fn ends_statement(kind: TokenKind) -> bool
+pub(crate) fn ends_statement(kind: TokenKind) -> bool
     ensures { result ≡ ends_statement kind }
 {
     match kind {

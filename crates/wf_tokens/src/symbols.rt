@@ -1,6 +1,6 @@
 // The symbols of the language: brackets, punctuation, comparisons and operators, each also as an assignment.
 
-ghost use Rattle.std.specs.Prelude.{ℕ, ◌≡◌, ◌≤◌, ◌++◌, List, length, drop, nat_eq, if◌then◌else◌, IfSome, IfNone, find};
+ghost use Rattle.std.specs.Prelude.{◌≡◌, drop, nat_eq, if◌then◌else◌, IfSome, IfNone, find};
 ghost use Rattle.std.specs.List.{starts_with};
 ghost use Rattle.wf_tokens.specs.Runs.{first_byte};
 ghost use Rattle.wf_tokens.specs.declared.symbols.Operator.TheVariants as operator;

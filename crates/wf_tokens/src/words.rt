@@ -1,6 +1,6 @@
 // The words of the language: names that mean something of their own and can name nothing else.
 
-ghost use Rattle.std.specs.Prelude.{ℕ, ◌≡◌, ◌≢◌, nat_eq, IfSome, IfNone, find};
+ghost use Rattle.std.specs.Prelude.{◌≡◌, ◌≢◌, nat_eq, IfSome, IfNone, find};
 ghost use Rattle.std.specs.Cmp.Lexicographic.{pointwise};
 ghost use Rattle.wf_tokens.specs.Runs.{first_byte};
 ghost use Rattle.wf_tokens.specs.Words.{word_text, words_from};

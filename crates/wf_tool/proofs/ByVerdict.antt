@@ -12,7 +12,7 @@ use Rattle.wf_sound_runs.specs.Accepted.{IsDefined}
 use Rattle.wf_script_rules.specs.Report.{Report, End, finished, out_of_turns, not_defined}
 use Rattle.wf_script_rules.specs.Scripts as scripts
 use Rattle.wf_script_rules.specs.Scripts.{Script, actions_of, script_of}
-use Rattle.wf_names_verdicts.proofs.CallOrders.{kept-have-orders}
+use Rattle.wf_names_verdicts.proofs.KeptOrders.{kept-have-orders}
 use Rattle.c_text.specs.CLayout.{text_of}
 use Rattle.wf_lower.specs.Unit.{lowered_unit}
 use Rattle.c_text.specs.CTree.{ItemTree}
@@ -230,11 +230,11 @@ told-held held (name ∷ names) (bytes ∷ files) t =
 accepted-as : (name : List ℕ) (files : List (List ℕ)) (methods : ℕ) → IsAccepted name files methods → (p : PackageTree) × IsAcceptedAs name files p
 accepted-as name files methods a =
     let read = a.read in
-    let some_order = kept-have-orders read.name read.texts (decls_of read) a.names in
-    let p = typed_package (in_order read some_order.0) in
+    let orders = kept-have-orders read.name read.texts (decls_of read) a.names in
+    let p = typed_package (in_order read orders.0 orders.1) in
     let accepted : IsAccepted name files (length p.methods) =
-    record { sized = a.sized; read = read; parsed = a.parsed; names = a.names; types = a.types; bounds = a.bounds; points = a.points; counted = typed-counted read some_order.0 } in
-    (p, record { verdict = accepted; runs = accepted-runs name files (length p.methods) accepted some_order; order = some_order.0; ordered = some_order.1; tree = refl })
+    record { sized = a.sized; read = read; parsed = a.parsed; names = a.names; types = a.types; bounds = a.bounds; points = a.points; counted = typed-counted read orders.0 orders.1 } in
+    (p, record { verdict = accepted; runs = accepted-runs name files (length p.methods) accepted orders; order = orders.0; struct_order = orders.1; ordered = orders.2; tree = refl })
 
 module _ (asked : Asked) (faults : ℕ) where
   abbrev Answers : Option Command → Type 0

@@ -106,58 +106,58 @@ methods-counted d (method public owner name mark args result body at ∷ decls) 
 
 module _ (read : Parsed) where
   -- What decides of the resolved package decides of the one that is read.
-  types-decide : (order : List ℕ) (found : Option Refusal) → Decides (Breaks (in_order read order)) found → Decides (BreaksTypes read) found
-  types-decide order found h =
-      Decides-map (Breaks (in_order read order)) (BreaksTypes read) found (any-order read.name read.texts (decls_of read) order []) (any-order read.name read.texts (decls_of read) [] order) h
+  types-decide : (order struct_order : List ℕ) (found : Option Refusal) → Decides (Breaks (in_order read order struct_order)) found → Decides (BreaksTypes read) found
+  types-decide order struct_order found h =
+      Decides-map (Breaks (in_order read order struct_order)) (BreaksTypes read) found (any-order read.name read.texts (decls_of read) order struct_order [] []) (any-order read.name read.texts (decls_of read) [] [] order struct_order) h
 
   -- And so it is of bounds and of points.
-  bounds-decide : (order : List ℕ) → bounds_refusal (in_order read order) ≡ bounds_refusal (resolved read)
-  bounds-decide order = bounds_ignore_order (resolved read) order
+  bounds-decide : (order struct_order : List ℕ) → bounds_refusal (in_order read order struct_order) ≡ bounds_refusal (resolved read)
+  bounds-decide order struct_order = bounds_ignore_order (resolved read) order struct_order
 
-  points-decide : (order : List ℕ) (found : Option Refusal) → Decides (BreaksPoints (in_order read order)) found → Decides (verdicts.BreaksPoints read) found
-  points-decide order found h =
-      Decides-map (BreaksPoints (in_order read order)) (verdicts.BreaksPoints read) found (points_ignore_order (resolved read) order) (points_ignore_order (in_order read order) []) h
+  points-decide : (order struct_order : List ℕ) (found : Option Refusal) → Decides (BreaksPoints (in_order read order struct_order)) found → Decides (verdicts.BreaksPoints read) found
+  points-decide order struct_order found h =
+      Decides-map (BreaksPoints (in_order read order struct_order)) (verdicts.BreaksPoints read) found (points_ignore_order (resolved read) order struct_order) (points_ignore_order (in_order read order struct_order) [] []) h
 
-  refuses-ordered : (order : List ℕ) (refusal : Refusal) → RefusesTyped (in_order read order) refusal → RefusesTyped (resolved read) refusal
-  refuses-ordered order refusal h = elim h [
-    | inl found ↦ inl (sym (bounds-decide order) ∙ found)
-    | inr points ↦ inr (sym (bounds-decide order) ∙ points.0, points-decide order (Some refusal) points.1)
+  refuses-ordered : (order struct_order : List ℕ) (refusal : Refusal) → RefusesTyped (in_order read order struct_order) refusal → RefusesTyped (resolved read) refusal
+  refuses-ordered order struct_order refusal h = elim h [
+    | inl found ↦ inl (sym (bounds-decide order struct_order) ∙ found)
+    | inr points ↦ inr (sym (bounds-decide order struct_order) ∙ points.0, points-decide order struct_order (Some refusal) points.1)
   ]
 
-  ordered-judged : (order : List ℕ) (result : Result AcceptedPackage PhaseFault) → verdicts.KeepsNames read → HasOrder (in_order read order) → JudgesNamed (in_order read order) result → JudgesRead read result
-  ordered-judged order (Ok a) names ordered h = (
+  ordered-judged : (order struct_order : List ℕ) (result : Result AcceptedPackage PhaseFault) → verdicts.KeepsNames read → HasOrder (in_order read order struct_order) → JudgesNamed (in_order read order struct_order) result → JudgesRead read result
+  ordered-judged order struct_order (Ok a) names ordered h = (
     names,
-    types-decide order None h.0,
-    sym (bounds-decide order) ∙ h.1,
-    points-decide order None h.2,
-    record { order = order; ordered = ordered; tree = h.3 },
+    types-decide order struct_order None h.0,
+    sym (bounds-decide order struct_order) ∙ h.1,
+    points-decide order struct_order None h.2,
+    record { order = order; struct_order = struct_order; ordered = ordered; tree = h.3 },
     h.4,
   )
-  ordered-judged order (Err (phase.Refused refusal)) names ordered h = elim h [
-    | inl first ↦ inr (inl (names, types-decide order (Some refusal) first))
-    | inr t ↦ inr (inr (names, types-decide order None t.0, refuses-ordered order refusal t.1))
+  ordered-judged order struct_order (Err (phase.Refused refusal)) names ordered h = elim h [
+    | inl first ↦ inr (inl (names, types-decide order struct_order (Some refusal) first))
+    | inr t ↦ inr (inr (names, types-decide order struct_order None t.0, refuses-ordered order struct_order refusal t.1))
   ]
-  ordered-judged order (Err phase.Memory) names ordered h = tt
+  ordered-judged order struct_order (Err phase.Memory) names ordered h = tt
 
   pub named-judged : (named : NamedParts) (result : Result AcceptedPackage PhaseFault) → IsResolved read named → JudgesNamed (named_package named) result → JudgesRead read result
   named-judged named result is h =
       let J : NamedPackageTree → Type 0 = λ p. JudgesNamed p result in
       let O : NamedPackageTree → Type 0 = HasOrder in
-      ordered-judged is.order result is.kept (subst O is.tree is.ordered) (subst J is.tree h)
+      ordered-judged is.order is.struct_order result is.kept (subst O is.tree is.ordered) (subst J is.tree h)
 
 -- As many methods are typed as are resolved.
 typed-long : (p : NamedPackageTree) (n : ℕ) (ms : List NamedMethodTree) → length (typed_methods p n ms) ≡ length ms
 typed-long p n [] = refl
 typed-long p n (m ∷ ms) = ap suc (typed-long p (n + count_block m.body) ms)
 
-pub typed-counted : (read : Parsed) (order : List ℕ) → length (typed_package (in_order read order)).methods ≡ verdicts.method_count read
+pub typed-counted : (read : Parsed) (order struct_order : List ℕ) → length (typed_package (in_order read order struct_order)).methods ≡ verdicts.method_count read
 unfolding typed_package
-typed-counted read order =
-    typed-long (in_order read order) 0 (in_order read order).methods ∙ methods-counted (declared read.texts (decls_of read)) (decls_of read)
+typed-counted read order struct_order =
+    typed-long (in_order read order struct_order) 0 (in_order read order struct_order).methods ∙ methods-counted (declared read.texts (decls_of read)) (decls_of read)
 
-typed-name : (read : Parsed) (order : List ℕ) → (typed_package (in_order read order)).package_name ≡ read.name
+typed-name : (read : Parsed) (order struct_order : List ℕ) → (typed_package (in_order read order struct_order)).package_name ≡ read.name
 unfolding typed_package
-typed-name read order = refl
+typed-name read order struct_order = refl
 
 -- A package's name is made of letters, digits and `_`.
 and-both : (a b : Bool) → (a && b) ≡ true → (a ≡ true) × (b ≡ true)
@@ -193,12 +193,12 @@ read-judged name files read (Ok a) named sized parsed h = (accepted_as, nodes_ha
     few : Decides (HasTooMany (package_of a.nodes)) None
     few = λ refusal broken.
         let P : PackageTree → Type 0 = λ p. HasTooMany p refusal in
-        h.3 refusal (points_ignore_order (resolved read) h.4.order refusal (subst P h.4.tree broken))
+        h.3 refusal (points_ignore_order (resolved read) h.4.order h.4.struct_order refusal (subst P h.4.tree broken))
 
     lowered : IsLowered (package_of a.nodes)
     lowered = record {
-      form = read_texts_are_formed name files read parsed h.0 (not-base name named) h.4.order a.nodes h.4.tree h.5 few;
-      shallow = read_texts_are_shallow name files read parsed h.4.order (package_of a.nodes) h.4.tree;
+      form = read_texts_are_formed name files read parsed h.0 (not-base name named) h.4.order h.4.struct_order a.nodes h.4.tree h.5 few;
+      shallow = read_texts_are_shallow name files read parsed h.4.order h.4.struct_order (package_of a.nodes) h.4.tree;
     }
 
     accepted : verdicts.IsAccepted name files (length (package_of a.nodes).methods)
@@ -210,14 +210,15 @@ read-judged name files read (Ok a) named sized parsed h = (accepted_as, nodes_ha
       types = h.1;
       bounds = h.2;
       points = h.3;
-      counted = ap (λ (p : PackageTree). length p.methods) h.4.tree ∙ typed-counted read h.4.order;
+      counted = ap (λ (p : PackageTree). length p.methods) h.4.tree ∙ typed-counted read h.4.order h.4.struct_order;
     }
 
     accepted_as : IsAcceptedAs name files (package_of a.nodes)
     accepted_as = record {
       verdict = accepted;
-      runs = accepted-runs name files (length (package_of a.nodes).methods) accepted (h.4.order, h.4.ordered);
+      runs = accepted-runs name files (length (package_of a.nodes).methods) accepted (h.4.order, h.4.struct_order, h.4.ordered);
       order = h.4.order;
+      struct_order = h.4.struct_order;
       ordered = h.4.ordered;
       tree = h.4.tree;
     }
@@ -225,12 +226,12 @@ read-judged name files read (Ok a) named sized parsed h = (accepted_as, nodes_ha
     plain : IsPlainPackage (package_of a.nodes)
     plain =
         let run = package-run name named in
-        let called : list_all is_run (typed_package (in_order read h.4.order)).package_name ≡ true = ap (list_all is_run) (typed-name read h.4.order ∙ parsed.named) ∙ run in
-        let typed : IsPlainPackage (typed_package (in_order read h.4.order)) = record {
+        let called : list_all is_run (typed_package (in_order read h.4.order h.4.struct_order)).package_name ≡ true = ap (list_all is_run) (typed-name read h.4.order h.4.struct_order ∙ parsed.named) ∙ run in
+        let typed : IsPlainPackage (typed_package (in_order read h.4.order h.4.struct_order)) = record {
           name = called;
-          names = read_names_are_plain name files read parsed h.0 h.4.order;
-          texts = read_statuses_are_plain name files read parsed run h.1 h.4.order;
-          owners = read_methods_have_owners name files read parsed h.0 h.4.order;
+          names = read_names_are_plain name files read parsed h.0 h.4.order h.4.struct_order;
+          texts = read_statuses_are_plain name files read parsed run h.1 h.4.order h.4.struct_order;
+          owners = read_methods_have_owners name files read parsed h.0 h.4.order h.4.struct_order;
         } in
         subst IsPlainPackage (sym h.4.tree) typed
 read-judged name files read (Err (phase.Refused refusal)) named sized parsed h = elim h [

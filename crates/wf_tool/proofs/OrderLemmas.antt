@@ -22,11 +22,11 @@ module _ (p q : NamedPackageTree) (same : sites p ≡ sites q) where
   breaks-same : (s : Refusal) → Breaks p s → Breaks q s
   breaks-same s b = record { judge = b.judge; is_rule = b.is_rule; is_wrong = moved b.judge s.at b.is_wrong }
 
-sites-same : (name : List ℕ) (texts : List (List ℕ)) (decls : List DeclTree) (order other : List ℕ) → sites (resolved_package name texts decls order) ≡ sites (resolved_package name texts decls other)
+sites-same : (name : List ℕ) (texts : List (List ℕ)) (decls : List DeclTree) (order struct_order other struct_other : List ℕ) → sites (resolved_package name texts decls order struct_order) ≡ sites (resolved_package name texts decls other struct_other)
 unfolding sites
-sites-same name texts decls order other = refl
+sites-same name texts decls order struct_order other struct_other = refl
 
-pub any-order : (name : List ℕ) (texts : List (List ℕ)) (decls : List DeclTree) (order other : List ℕ) (s : Refusal)
-    → Breaks (resolved_package name texts decls order) s → Breaks (resolved_package name texts decls other) s
-any-order name texts decls order other s b =
-    breaks-same (resolved_package name texts decls order) (resolved_package name texts decls other) (sites-same name texts decls order other) s b
+pub any-order : (name : List ℕ) (texts : List (List ℕ)) (decls : List DeclTree) (order struct_order other struct_other : List ℕ) (s : Refusal)
+    → Breaks (resolved_package name texts decls order struct_order) s → Breaks (resolved_package name texts decls other struct_other) s
+any-order name texts decls order struct_order other struct_other s b =
+    breaks-same (resolved_package name texts decls order struct_order) (resolved_package name texts decls other struct_other) (sites-same name texts decls order struct_order other struct_other) s b

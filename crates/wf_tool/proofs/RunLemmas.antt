@@ -132,9 +132,10 @@ pub shows-source : (name : List ℕ) (files : List (List ℕ)) (p : PackageTree)
 shows-source name files p accepted =
     let read = accepted.verdict.read in
     let order = accepted.order in
-    let types : Decides (Breaks (in_order read order)) None = λ refusal breaks. accepted.verdict.types refusal (any-order read.name read.texts (decls_of read) order [] refusal breaks) in
-    let bounds : bounds_refusal (in_order read order) ≡ None = bounds_ignore_order (resolved read) order ∙ accepted.verdict.bounds in
-    subst ShowsItsSource (sym accepted.tree) (read-seen name files read accepted.verdict.parsed accepted.verdict.names order accepted.ordered types bounds)
+    let struct_order = accepted.struct_order in
+    let types : Decides (Breaks (in_order read order struct_order)) None = λ refusal breaks. accepted.verdict.types refusal (any-order read.name read.texts (decls_of read) order struct_order [] [] refusal breaks) in
+    let bounds : bounds_refusal (in_order read order struct_order) ≡ None = bounds_ignore_order (resolved read) order struct_order ∙ accepted.verdict.bounds in
+    subst ShowsItsSource (sym accepted.tree) (read-seen name files read accepted.verdict.parsed accepted.verdict.names order struct_order accepted.ordered types bounds)
 
 module _ (p : PackageTree) (shows : ShowsItsSource p) (bytes : List ℕ) where
   pub script-seen : (script : Script) → script_of (surface_of p) bytes ≡ Ok script → SourceIsSeen p script.declared.receivers (actions_of script)

@@ -6,25 +6,25 @@ use Rattle.wf_ast.specs.ReadPackage.{decls_of}
 use Rattle.wf_types_rules.specs.TypeRules.{Breaks}
 use Rattle.wf_bounds_laws.specs.BoundsRules.{bounds_refusal}
 use Rattle.wf_bounds_laws.proofs.AnyOrder.{bounds_ignore_order}
-use Rattle.wf_names_verdicts.proofs.CallOrders.{kept-have-orders}
+use Rattle.wf_names_verdicts.proofs.KeptOrders.{kept-have-orders}
 use Rattle.wf_sound_laws.proofs.SoundPackages.{read-never-stuck}
 use Rattle.wf_tool.specs.Soundness.{in_order, HasSomeOrder, RunsInOrder, NeverStuck, AcceptedAreNeverStuck}
 use Rattle.wf_tool.specs.Verdict.{resolved, IsAccepted}
 use Rattle.wf_tool.proofs.OrderLemmas.{any-order}
 
 runs-in-order : (name : List ℕ) (files : List (List ℕ)) (methods : ℕ) (accepted : IsAccepted name files methods) → RunsInOrder accepted.read
-runs-in-order name files methods accepted order ordered =
+runs-in-order name files methods accepted order struct_order ordered =
     let read = accepted.read in
-    let types : Decides (Breaks (in_order read order)) None = λ refusal breaks. accepted.types refusal (any-order read.name read.texts (decls_of read) order [] refusal breaks) in
-    let bounds : bounds_refusal (in_order read order) ≡ None = bounds_ignore_order (resolved read) order ∙ accepted.bounds in
-    read-never-stuck name files read accepted.parsed accepted.names order ordered types bounds
+    let types : Decides (Breaks (in_order read order struct_order)) None = λ refusal breaks. accepted.types refusal (any-order read.name read.texts (decls_of read) order struct_order [] [] refusal breaks) in
+    let bounds : bounds_refusal (in_order read order struct_order) ≡ None = bounds_ignore_order (resolved read) order struct_order ∙ accepted.bounds in
+    read-never-stuck name files read accepted.parsed accepted.names order struct_order ordered types bounds
 
 pub accepted-runs : (name : List ℕ) (files : List (List ℕ)) (methods : ℕ) (accepted : IsAccepted name files methods) → HasSomeOrder accepted.read → NeverStuck name files
 accepted-runs name files methods accepted ordered = record {
   read = accepted.read;
   parsed = accepted.parsed;
   ordered = ordered;
-  defined = λ order in_front. runs-in-order name files methods accepted order in_front;
+  defined = λ order struct_order in_front. runs-in-order name files methods accepted order struct_order in_front;
 }
 
 pub accepted-never-stuck : AcceptedAreNeverStuck

@@ -14,7 +14,7 @@ use Rattle.wf_names_resolve.specs.Package.{resolved_package}
 use Rattle.wf_types_rules.specs.TypeRules as types
 use Rattle.wf_bounds_laws.specs.BoundsRules as bounds
 use Rattle.wf_tool.specs.Verdict as verdicts
-use Rattle.wf_tool.specs.Verdict.{BreaksNames, BreaksTypes, out_of_bounds_at, BreaksPoints, IsAccepted, IsMisread, IsMisnamed, IsMistyped, IsOutOfBounds, HasTooManyPoints, IsRefused, VerdictsExclude, large, misread, misnamed, mistyped, out_of_bounds, has_too_many_points}
+use Rattle.wf_tool.specs.Verdict.{BreaksNames, BreaksTypes, out_of_bounds_at, BreaksPoints, IsAccepted, IsMisread, IsMisnamed, IsMistyped, IsOutOfBounds, IsRefused, VerdictsExclude, large, misread, misnamed, mistyped, out_of_bounds, has_too_many_points}
 
 some-once : (refusal other : Refusal) → Some refusal ≡ Some other → refusal ≡ other
 some-once refusal other is = cc is
@@ -34,25 +34,25 @@ module _ (name : List ℕ) (files : List (List ℕ)) where
   types-once : (p q : Parsed) → IsParsed name files p → IsParsed name files q → (s : Refusal) → BreaksTypes p s → BreaksTypes q s
   types-once p q a b s h =
       let same = trees_unique name files p q a b in
-      let N : List ℕ → Type 0 = λ of. types.Breaks (resolved_package of p.texts (decls_of p) []) s in
-      let T : List (List ℕ) → Type 0 = λ texts. types.Breaks (resolved_package q.name texts (decls_of p) []) s in
-      let D : List DeclTree → Type 0 = λ decls. types.Breaks (resolved_package q.name q.texts decls []) s in
+      let N : List ℕ → Type 0 = λ of. types.Breaks (resolved_package of p.texts (decls_of p) [] []) s in
+      let T : List (List ℕ) → Type 0 = λ texts. types.Breaks (resolved_package q.name texts (decls_of p) [] []) s in
+      let D : List DeclTree → Type 0 = λ decls. types.Breaks (resolved_package q.name q.texts decls [] []) s in
       subst D same.decls (subst T same.texts (subst N same.name h))
 
   -- and of bounds, and of points
   bounds-once : (p q : Parsed) → IsParsed name files p → IsParsed name files q → out_of_bounds_at p ≡ out_of_bounds_at q
   bounds-once p q a b =
       let same = trees_unique name files p q a b in
-      ap (λ (of : List ℕ). bounds.bounds_refusal (resolved_package of p.texts (decls_of p) [])) same.name
-      ∙ ap (λ (texts : List (List ℕ)). bounds.bounds_refusal (resolved_package q.name texts (decls_of p) [])) same.texts
-      ∙ ap (λ (decls : List DeclTree). bounds.bounds_refusal (resolved_package q.name q.texts decls [])) same.decls
+      ap (λ (of : List ℕ). bounds.bounds_refusal (resolved_package of p.texts (decls_of p) [] [])) same.name
+      ∙ ap (λ (texts : List (List ℕ)). bounds.bounds_refusal (resolved_package q.name texts (decls_of p) [] [])) same.texts
+      ∙ ap (λ (decls : List DeclTree). bounds.bounds_refusal (resolved_package q.name q.texts decls [] [])) same.decls
 
   points-once : (p q : Parsed) → IsParsed name files p → IsParsed name files q → (s : Refusal) → BreaksPoints p s → BreaksPoints q s
   points-once p q a b s h =
       let same = trees_unique name files p q a b in
-      let N : List ℕ → Type 0 = λ of. bounds.BreaksPoints (resolved_package of p.texts (decls_of p) []) s in
-      let T : List (List ℕ) → Type 0 = λ texts. bounds.BreaksPoints (resolved_package q.name texts (decls_of p) []) s in
-      let D : List DeclTree → Type 0 = λ decls. bounds.BreaksPoints (resolved_package q.name q.texts decls []) s in
+      let N : List ℕ → Type 0 = λ of. bounds.BreaksPoints (resolved_package of p.texts (decls_of p) [] []) s in
+      let T : List (List ℕ) → Type 0 = λ texts. bounds.BreaksPoints (resolved_package q.name texts (decls_of p) [] []) s in
+      let D : List DeclTree → Type 0 = λ decls. bounds.BreaksPoints (resolved_package q.name q.texts decls [] []) s in
       subst D same.decls (subst T same.texts (subst N same.name h))
 
   first-name : (p q : Parsed) → IsParsed name files p → IsParsed name files q → (refusal : Refusal) → IsFirst (BreaksNames p) refusal → IsFirst (BreaksNames q) refusal

@@ -20,13 +20,14 @@ use Rattle.wf_tool.specs.Soundness.{NeverStuck, in_order}
 use Rattle.wf_tool.specs.Verdict.{IsAccepted}
 
 -- The files are accepted as a package that has this typed tree, and so it is never stuck. Its methods stand in an order in which
--- each is after those that it calls.
+-- each is after those that it calls, and its structs in one in which each is after those that its fields hold.
 pub record IsAcceptedAs (name : List ℕ) (files : List (List ℕ)) (p : PackageTree) : Type 0 where
   pub verdict : IsAccepted name files (length p.methods)
   pub runs : NeverStuck name files
   pub order : List ℕ
-  pub ordered : HasOrder (in_order verdict.read order)
-  pub tree : p ≡ typed_package (in_order verdict.read order)
+  pub struct_order : List ℕ
+  pub ordered : HasOrder (in_order verdict.read order struct_order)
+  pub tree : p ≡ typed_package (in_order verdict.read order struct_order)
 
 -- The report of a script by what is seen of the package's source.
 abbrev pub source_report : PackageTree → Script → Report

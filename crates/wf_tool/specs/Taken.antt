@@ -94,11 +94,12 @@ JudgesNamed p (Ok a) = Decides (Breaks p) None × (bounds.bounds_refusal p ≡ N
 JudgesNamed p (Err (phase.Refused refusal)) = IsFirst (Breaks p) refusal ⊎ (Decides (Breaks p) None × RefusesTyped p refusal)
 JudgesNamed p (Err phase.Memory) = ⊤
 
--- The typed tree of a package that is read, with its methods in an order.
+-- The typed tree of a package that is read, with its methods and its structs in orders.
 pub record HasTree (read : Parsed) (p : PackageTree) : Type 0 where
   pub order : List ℕ
-  pub ordered : HasOrder (in_order read order)
-  pub tree : p ≡ typed_package (in_order read order)
+  pub struct_order : List ℕ
+  pub ordered : HasOrder (in_order read order struct_order)
+  pub tree : p ≡ typed_package (in_order read order struct_order)
 
 -- The verdict on a package that is read: its names come before all these.
 abbrev pub JudgesRead : Parsed → Result AcceptedPackage PhaseFault → Type 0

@@ -24,7 +24,7 @@ KeepsNames read = (refusal : Refusal) → BreaksNames read refusal → ⊥
 -- The package with every name standing for what it names. No rule that comes after those of names asks in which order its
 -- methods call one another, so none is told here.
 abbrev pub resolved : Parsed → NamedPackageTree
-resolved read = resolved_package read.name read.texts (decls_of read) []
+resolved read = resolved_package read.name read.texts (decls_of read) [] []
 
 -- What it breaks of the rules of types and effects: T1 to T5 and E1 to E5.
 abbrev pub BreaksTypes : Parsed → Refusal → Type 0
@@ -67,15 +67,15 @@ pub record IsMisread (files : List (List ℕ)) (refusal : Refusal) : Type 0 wher
   pub sized : too_large files ≡ None
   pub misread : IsRefusedBy files refusal
 
--- N1 to N8, L6 and L7: the files are read, and of all that they break of the rules of names this decides.
+-- N1 to N8, L6 and L7: the files are read, and this is the first refusal of all that they break of the rules of names.
 pub record IsMisnamed (name : List ℕ) (files : List (List ℕ)) (refusal : Refusal) : Type 0 where
   pub sized : too_large files ≡ None
   pub read : Parsed
   pub parsed : IsParsed name files read
   pub decides : IsFirst (BreaksNames read) refusal
 
--- T1 to T5 and E1 to E5: the files are read and keep the rules of names, and of all that they break of the rules of types
--- and effects this decides.
+-- T1 to T5 and E1 to E5: the files are read and keep the rules of names, and this is the first refusal of all that they break
+-- of the rules of types and effects.
 pub record IsMistyped (name : List ℕ) (files : List (List ℕ)) (refusal : Refusal) : Type 0 where
   pub sized : too_large files ≡ None
   pub read : Parsed
@@ -93,8 +93,8 @@ pub record IsOutOfBounds (name : List ℕ) (files : List (List ℕ)) (refusal : 
   pub types : KeepsTypes read
   pub first : out_of_bounds_at read ≡ Some refusal
 
--- L9: the files are read and keep all rules but that of suspension points, and of the methods that have too many this one's
--- refusal decides.
+-- L9: the files are read and keep all rules but that of suspension points, and this is the first refusal of the methods that
+-- have too many.
 pub record HasTooManyPoints (name : List ℕ) (files : List (List ℕ)) (refusal : Refusal) : Type 0 where
   pub sized : too_large files ≡ None
   pub read : Parsed

@@ -15,9 +15,9 @@ pub fn a_verdict_exists()
 {}
 
 /// An accepted package is never stuck: with receivers of its public structs, no action of a host leads to a step that leaves
-/// its type or its bounds, within whatever number of turns, through every suspension and resumption and every interleaved,
-/// uninitialised or disabled call. Its methods have an order in which each stands after those that it calls, and so it is in
-/// each such order.
+/// its type or its bounds, within whatever number of turns, however often a call suspends and goes on, and though calls
+/// interleave, come before an init or meet a disabled receiver. Its methods have an order in which each stands
+/// after those that it calls, and so it is in each such order.
 pub fn an_accepted_package_is_never_stuck()
     ensures { AcceptedAreNeverStuck }
 {}

@@ -1,5 +1,5 @@
 -- What comes of a script that is read over a package and driven over an engine.
-use Rattle.std.specs.Prelude.{◌≡◌, ℕ, List, length, Option, Result, Ok, Err}
+use Rattle.std.specs.Prelude.{◌≡◌, ℕ, List, [], length, Option, Some, Result, Ok, Err, slice_get}
 use Rattle.wf_text.specs.Surface.{Surface}
 use Rattle.wf_base.specs.HostRun.{Steps, empty_host, run}
 use Rattle.wf_script.specs.declared.faults.ScriptFault.{ScriptFault}
@@ -8,6 +8,7 @@ use Rattle.wf_script_rules.specs.Report.{Report, report_of}
 use Rattle.wf_script_rules.specs.Scripts.{Script, actions_of, script_of}
 use Rattle.wf_script_drive.specs.declared.driving.DriveEnd.{DriveEnd}
 use Rattle.wf_script_drive.specs.Driving.{CountsDrive, Drives, FitsDrive}
+use Rattle.wf_script_drive.specs.Lawful.{HasOwnNumbers, IsScript}
 use Rattle.wf_tool_runs.specs.declared.prepared.Prepared.{Prepared}
 
 -- The report of a script over what answers inits and calls, from this state.
@@ -18,6 +19,12 @@ report_over steps state surface script = report_of surface script (run steps sta
 abbrev pub Prepares : Surface → (bytes : List ℕ) → Result Prepared ScriptFault → Type 0
 Prepares surface bytes (Ok it) = (it.surface ≡ surface) × (script_of surface bytes ≡ Ok it.script)
 Prepares surface bytes (Err fault) = FailsScript fault (script_of surface bytes)
+
+-- The script was read over the surface. Its methods have numbers of their own, and its first status is ok, whose text is empty.
+pub record IsPrepared (it : Prepared) : Type 0 where
+  pub ok : slice_get it.surface.statuses 0 ≡ Some []
+  pub numbers : HasOwnNumbers it.surface
+  pub script : IsScript it.surface it.script
 
 -- The report was driven, or nothing was written.
 abbrev pub WritesRun : {F : Type 0} → (old new : Option (List ℕ)) → Result DriveEnd F → Report → Type 0

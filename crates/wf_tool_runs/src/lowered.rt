@@ -9,10 +9,9 @@ ghost use Rattle.c_text.specs.CNodes.{unit_tree};
 ghost use Rattle.c_read_grammar.specs.Outcomes.{IsShallow};
 ghost use Rattle.wf_lower.specs.Made.{IsSpelt};
 ghost use Rattle.wf_lower.specs.Unit.{lowered_unit};
-ghost use Rattle.wf_script_drive.specs.Lawful.{IsScript};
 ghost use Rattle.wf_surfaces.specs.Names.{HasNames};
 ghost use Rattle.wf_tool_runs.specs.Lowered.{IsLowered, lowered_report};
-ghost use Rattle.wf_tool_runs.specs.Runs.{CountsRun, FitsRun, RunsScript, WritesRun};
+ghost use Rattle.wf_tool_runs.specs.Runs.{CountsRun, FitsRun, IsPrepared, RunsScript, WritesRun};
 
 use crate::prepared::Prepared;
 use crate::units::run_unit;
@@ -59,11 +58,10 @@ fn run_made<L: Loader, O: Sink>(
     prepared: &Prepared,
     out: &mut O,
 ) -> Result<DriveEnd, NoMemory>
-    requires names { HasNames a.now.nodes }
     requires spelt { IsSpelt a.now.nodes }
     requires lowered { IsLowered (package_of a.now.nodes) }
     requires surface { prepared.now.surface ≡ surface_of (package_of a.now.nodes) }
-    requires script { IsScript (surface_of (package_of a.now.nodes)) prepared.now.script }
+    requires prepared { IsPrepared prepared.now }
     requires countable { O.faults out.old < 2 ^ 64 - 1 }
     ensures same { (L.seen loader.new ≡ L.seen loader.old) × (L.plain loader.new ≡ L.plain loader.old) }
     ensures report { WritesRun (O.written out.old) (O.written out.new) result (lowered_report (L.seen loader.old) (package_of a.now.nodes) prepared.now.script) }
@@ -72,11 +70,10 @@ fn run_made<L: Loader, O: Sink>(
     ensures longest { KeepsLongest (O.longest out.old) (O.longest out.new) }
 {
     let unit = made_again(alloc, a)?;
-    match run_unit(alloc, loader, a.typed(), prepared, unit, out) {
-        Ok(end) => Ok(end),
-        Err(LoadFault::NoSuchForm { item: _ }) => unreachable!(),
-        Err(LoadFault::Memory) => Err(NoMemory),
-    }
+    run_unit(alloc, loader, prepared, unit, out).map_err(|fault| match fault {
+        LoadFault::NoSuchForm { item: _ } => unreachable!(),
+        LoadFault::Memory => NoMemory,
+    })
 }
 
 // The unit of the package's C text, printed and read back.
@@ -96,12 +93,11 @@ fn read_back(alloc: Global, unit: &Unit) -> Result<Unit, NoMemory>
 {
     let text = printed(alloc, unit)?;
     what_is_printed_is_read_back(unit);
-    match read(alloc, text.written()) {
-        Ok(it) => Ok(it),
-        Err(ReadFault::TooDeep { at: _ }) => unreachable!(),
-        Err(ReadFault::NotC { at: _ }) => unreachable!(),
-        Err(ReadFault::Memory) => Err(NoMemory),
-    }
+    read(alloc, text.written()).map_err(|fault| match fault {
+        ReadFault::TooDeep { at: _ } => unreachable!(),
+        ReadFault::NotC { at: _ } => unreachable!(),
+        ReadFault::Memory => NoMemory,
+    })
 }
 
 // The text of a unit, in memory.
@@ -109,8 +105,6 @@ fn printed(alloc: Global, unit: &Unit) -> Result<PureSink, NoMemory>
     ensures { IfOk result (λ it. it.written ≡ text_of (unit_tree unit.now)) }
 {
     let mut text = PureSink::with_room(alloc, print_len(unit) as usize)?;
-    match print(unit, &mut text) {
-        Ok(()) => Ok(text),
-        Err(_) => Err(NoMemory),
-    }
+    print(unit, &mut text).map_err(|_| NoMemory)?;
+    Ok(text)
 }

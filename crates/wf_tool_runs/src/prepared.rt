@@ -1,14 +1,13 @@
 // A script with the public surface that it was read over, which can be driven over any engine.
 
-ghost use Rattle.std.specs.Prelude.{◌≡◌, ◌<◌, ◌-◌, ◌^◌, false, length, map};
+ghost use Rattle.std.specs.Prelude.{◌≡◌, ◌<◌, ◌-◌, ◌^◌, false, length, map, IfOk};
 ghost use Rattle.pens.specs.Pens.{KeepsLongest};
 ghost use Rattle.wf_ast.specs.TypedInvariant.{IsTyped};
 ghost use Rattle.wf_ast.specs.TypedPackage.{package_of, surface_of};
 ghost use Rattle.wf_bufs.specs.EngineLaw.{steps_of};
 ghost use Rattle.wf_bufs.specs.SurfaceViews.{receiver_of};
-ghost use Rattle.wf_script_drive.specs.Lawful.{HasOwnNumbers, IsScript};
 ghost use Rattle.wf_surfaces.specs.Names.{HasNames};
-ghost use Rattle.wf_tool_runs.specs.Runs.{CountsRun, FitsRun, Prepares, WritesRun, report_over};
+ghost use Rattle.wf_tool_runs.specs.Runs.{CountsRun, FitsRun, IsPrepared, Prepares, WritesRun, report_over};
 
 use std::alloc::Global;
 use wf_ast::Typed;
@@ -39,7 +38,8 @@ impl Prepared {
     pub fn read(alloc: Global, t: &Typed, bytes: &[u8]) -> Result<Prepared, ScriptFault>
         requires names { HasNames t.now }
         requires typed { IsTyped t.now }
-        ensures { Prepares (surface_of (package_of t.now)) bytes.now result }
+        ensures reads { Prepares (surface_of (package_of t.now)) bytes.now result }
+        ensures prepared { IfOk result IsPrepared }
     {
         let surface = public_surface(alloc, t)?;
         let script = read_script(alloc, bytes, &surface)?;
@@ -62,8 +62,7 @@ impl Prepared {
         out: &mut O,
     ) -> Result<DriveEnd, NoMemory>
         requires countable { O.faults out.old < 2 ^ 64 - 1 }
-        requires numbers { HasOwnNumbers self.now.surface }
-        requires script { IsScript self.now.surface self.now.script }
+        requires prepared { IsPrepared self.now }
         requires goes_on { E.stopped (E.state engine.old) ≡ false }
         requires surface { E.surface (E.state engine.old) ≡ self.now.surface }
         requires receivers { E.receivers (E.state engine.old) ≡ self.now.script.declared.receivers }

@@ -3,9 +3,8 @@
 ghost use Rattle.std.specs.Prelude.{◌≡◌, ◌<◌, ◌-◌, ◌^◌, length};
 ghost use Rattle.pens.specs.Pens.{KeepsLongest};
 ghost use Rattle.wf_ast.specs.TypedPackage.{package_of, surface_of};
-ghost use Rattle.wf_script_drive.specs.Lawful.{IsScript};
 ghost use Rattle.wf_surfaces.specs.Names.{HasNames};
-ghost use Rattle.wf_tool_runs.specs.Runs.{CountsRun, FitsRun, RunsScript, WritesRun};
+ghost use Rattle.wf_tool_runs.specs.Runs.{CountsRun, FitsRun, IsPrepared, RunsScript, WritesRun};
 ghost use Rattle.wf_tool_runs.specs.Sources.{engine_report};
 
 use crate::prepared::Prepared;
@@ -44,7 +43,7 @@ fn run_prepared<O: Sink>(
     out: &mut O,
 ) -> Result<DriveEnd, NoMemory>
     requires surface { prepared.now.surface ≡ surface_of (package_of a.now.nodes) }
-    requires script { IsScript (surface_of (package_of a.now.nodes)) prepared.now.script }
+    requires prepared { IsPrepared prepared.now }
     requires countable { O.faults out.old < 2 ^ 64 - 1 }
     ensures report { WritesRun (O.written out.old) (O.written out.new) result (engine_report (package_of a.now.nodes) prepared.now.script) }
     ensures count { CountsRun (O.faults out.old) (O.faults out.new) result }

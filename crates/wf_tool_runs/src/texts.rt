@@ -3,9 +3,8 @@
 ghost use Rattle.std.specs.Prelude.{◌≡◌, ◌<◌, ◌≤◌, ◌-◌, ◌^◌, length};
 ghost use Rattle.pens.specs.Pens.{KeepsLongest};
 ghost use Rattle.wf_ast.specs.TypedPackage.{package_of, surface_of};
-ghost use Rattle.wf_script_drive.specs.Lawful.{IsScript};
 ghost use Rattle.wf_surfaces.specs.Names.{HasNames};
-ghost use Rattle.wf_tool_runs.specs.Runs.{CountsRun};
+ghost use Rattle.wf_tool_runs.specs.Runs.{CountsRun, IsPrepared};
 ghost use Rattle.wf_tool_runs.specs.Units.{RunsRead, RunsText, load_fault, read_fault, script_fault};
 
 use crate::prepared::Prepared;
@@ -32,7 +31,7 @@ pub enum TextFault {
     TooDeep { at: u64 },
     /// The token at this byte, from 0, can't stand there; at the end, the number of bytes.
     NotC { at: u64 },
-    /// The item with this number, from 0, is the first that breaks the unit form; the number of items, where there is none or a
+    /// The number, counted from 0, of the first item that breaks the unit form; the number of items, where there is none or a
     /// public function is missing.
     NoSuchForm { item: usize },
 }
@@ -101,52 +100,46 @@ pub fn run_text<L: Loader, O: Sink>(
     ensures longest { KeepsLongest (O.longest out.old) (O.longest out.new) }
 {
     let prepared = Prepared::read(alloc, a.typed(), bytes)?;
-    run_read(alloc, loader, a, &prepared, text, out)
+    run_read(alloc, loader, &prepared, text, out)
 }
 
 // The same of a script that is read over the package's surface.
 fn run_read<L: Loader, O: Sink>(
     alloc: Global,
     loader: &mut L,
-    a: &Accepted,
     prepared: &Prepared,
     text: &[u8],
     out: &mut O,
 ) -> Result<DriveEnd, RunFault>
-    requires names { HasNames a.now.nodes }
-    requires surface { prepared.now.surface ≡ surface_of (package_of a.now.nodes) }
-    requires script { IsScript (surface_of (package_of a.now.nodes)) prepared.now.script }
+    requires prepared { IsPrepared prepared.now }
     requires countable { O.faults out.old < 2 ^ 64 - 1 }
     ensures same { (L.seen loader.new ≡ L.seen loader.old) × (L.plain loader.new ≡ L.plain loader.old) }
-    ensures runs { RunsRead (L.seen loader.old) (surface_of (package_of a.now.nodes)) prepared.now.script text.now (O.written out.old) (O.written out.new) (O.room out.old) (O.room out.new) result }
+    ensures runs { RunsRead (L.seen loader.old) prepared.now.surface prepared.now.script text.now (O.written out.old) (O.written out.new) (O.room out.old) (O.room out.new) result }
     ensures count { CountsRun (O.faults out.old) (O.faults out.new) result }
     ensures longest { KeepsLongest (O.longest out.old) (O.longest out.new) }
 {
     if text.len() > MOST_TEXT {
         return Err(RunFault::Text(TextFault::TooLong));
     }
-    run_short(alloc, loader, a, prepared, text, out)
+    run_short(alloc, loader, prepared, text, out)
 }
 
 // The same of a text that isn't too long.
 fn run_short<L: Loader, O: Sink>(
     alloc: Global,
     loader: &mut L,
-    a: &Accepted,
     prepared: &Prepared,
     text: &[u8],
     out: &mut O,
 ) -> Result<DriveEnd, RunFault>
-    requires names { HasNames a.now.nodes }
-    requires surface { prepared.now.surface ≡ surface_of (package_of a.now.nodes) }
-    requires script { IsScript (surface_of (package_of a.now.nodes)) prepared.now.script }
+    requires prepared { IsPrepared prepared.now }
     requires short { length text.now ≤ 1048576 }
     requires countable { O.faults out.old < 2 ^ 64 - 1 }
     ensures same { (L.seen loader.new ≡ L.seen loader.old) × (L.plain loader.new ≡ L.plain loader.old) }
-    ensures runs { RunsRead (L.seen loader.old) (surface_of (package_of a.now.nodes)) prepared.now.script text.now (O.written out.old) (O.written out.new) (O.room out.old) (O.room out.new) result }
+    ensures runs { RunsRead (L.seen loader.old) prepared.now.surface prepared.now.script text.now (O.written out.old) (O.written out.new) (O.room out.old) (O.room out.new) result }
     ensures count { CountsRun (O.faults out.old) (O.faults out.new) result }
     ensures longest { KeepsLongest (O.longest out.old) (O.longest out.new) }
 {
     let unit = read(alloc, text)?;
-    Ok(run_unit(alloc, loader, a.typed(), prepared, unit, out)?)
+    Ok(run_unit(alloc, loader, prepared, unit, out)?)
 }

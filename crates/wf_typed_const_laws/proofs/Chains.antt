@@ -13,11 +13,11 @@ use Rattle.wf_ast.specs.declared.types.Ty.{Ty}
 use Rattle.wf_ast.specs.declared.types.Ty.TheVariants as types
 use Rattle.wf_ast.specs.ParsedTree.{ExprTree, LinkTrees, no_link, link}
 use Rattle.wf_ast.specs.TypedTree.{Arith, plus, minus, times, divided, remainder, shift_left, shift_right, bits_and, bits_or, bits_xor, mod_plus, mod_minus, mod_times, mod_shift_left, sat_plus, sat_minus, less, at_most, equal, differs, at_least, greater}
-use Rattle.wf_ast.specs.TypedTrees.{arithmetic, ordering, joining, sort_of}
+use Rattle.wf_ast.specs.TypedTrees.{arithmetic, ordering, joining, operator_kind}
 use Rattle.wf_ast.specs.Value.{applied, fitted}
 use Rattle.wf_ast.proofs.BoolLemmas.{both}
 use Rattle.wf_names_rules.specs.Declarations.{Declared}
-use Rattle.wf_names_rules.specs.ConstantValues.{Sized, Valued, Running, bits_or_most, joined_bits, joined_number, shifted_number, started, run_to, run_joined, run_shifted, run_on, ended, value_of, links_value}
+use Rattle.wf_names_rules.specs.ConstantValues.{Sized, Valued, Running, bits_or_most, joined_bits, joined_number, shifted_number, started, run_joined, run_on, ended, value_of, links_value}
 use Rattle.wf_names_rules.specs.ConstantValues as by_names
 use Rattle.wf_types_rules.specs.declared.meanings.Meaning.{Meaning}
 use Rattle.wf_types_rules.specs.declared.meanings.Meaning.TheVariants as meanings
@@ -412,7 +412,7 @@ module _ (d : Declared) (hidden : ℕ → Bool) (known : List Valued) where
         → Value op first links (common_width (o ∷ os)) v
     by-pair op a plain joins t ns c v e = plain-chain op a plain joins first links o os h l (taken-parts (o ∷ os) t) ns c v e
 
-    pub chain-value : (op : Op) → HasValue (ended (links_value d hidden known op (started (value_of d hidden known first)) links)) (meaning_of_operator (sort_of op) (o ∷ os))
+    pub chain-value : (op : Op) → HasValue (ended (links_value d hidden known op (started (value_of d hidden known first)) links)) (meaning_of_operator (operator_kind op) (o ∷ os))
     chain-value ops.Add = given-value (value ops.Add) plus (o ∷ os) (are_taken (arithmetic plus) (o ∷ os)) (by-joined ops.Add (λ m n. m + n) plus refl (λ bits m n. refl) (λ n. refl) (λ m n ns. refl))
     chain-value ops.Mul = given-value (value ops.Mul) times (o ∷ os) (are_taken (arithmetic times) (o ∷ os)) (by-joined ops.Mul (λ m n. m * n) times refl (λ bits m n. refl) (λ n. refl) (λ m n ns. refl))
     chain-value ops.BitAnd = given-value (value ops.BitAnd) bits_and (o ∷ os) (are_taken (arithmetic bits_and) (o ∷ os)) (by-joined ops.BitAnd (λ m n. bit_and m n) bits_and refl (λ bits m n. refl) (λ n. refl) (λ m n ns. refl))

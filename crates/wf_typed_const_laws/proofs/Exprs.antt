@@ -12,19 +12,19 @@ use Rattle.wf_ast.specs.declared.parsed.Root.TheVariants as roots
 use Rattle.wf_ast.specs.declared.types.Ty.{Ty}
 use Rattle.wf_ast.specs.ParsedTree as parsed
 use Rattle.wf_ast.specs.ParsedTree.{ExprTree, LinkTrees, TypeTree}
-use Rattle.wf_ast.specs.TypedTrees.{sort_of}
+use Rattle.wf_ast.specs.TypedTrees.{operator_kind}
 use Rattle.wf_ast.specs.WellFormed.{formed_expr, formed_links, formed_type, has_its_operands}
 use Rattle.wf_ast.proofs.BoolLemmas.{both}
 use Rattle.wf_named.specs.declared.nodes.BaseType.{BaseType}
 use Rattle.wf_named.specs.declared.nodes.BaseType.TheVariants as bases
 use Rattle.wf_named.specs.declared.nodes.NamedCallee.TheVariants as callees
 use Rattle.wf_named.specs.NamedTree as named
-use Rattle.wf_named.specs.NamedTree.{NamedCallTree, NamedExprTree}
+use Rattle.wf_named.specs.NamedTree.{NamedCallTree}
 use Rattle.wf_names_rules.specs.Declarations.{Declared, Variable, is_spelt, text_of, variable_named, place_in}
 use Rattle.wf_names_rules.specs.Meanings.{width_named, sort_at, known_at}
 use Rattle.wf_names_rules.specs.Uses.{Scope, uses_of, link_uses, type_uses}
 use Rattle.wf_names_rules.specs.Sizes.{hidden_by}
-use Rattle.wf_names_rules.specs.ConstantValues.{Sized, Valued, bits_or_most, known_value, named_value, started, ended, value_of, links_value}
+use Rattle.wf_names_rules.specs.ConstantValues.{Sized, Valued, known_value, named_value, started, ended, value_of, links_value}
 use Rattle.wf_names_rules.specs.ConstantValues as by_names
 use Rattle.wf_names_resolve.specs.Standing.{Standing, standing_at}
 use Rattle.wf_names_resolve.specs.Resolved.{variable_at, bare_variable, resolved_expr, resolved_links, resolved_part, resolved_call, resolved_type, base_type_named, sized_type, plain_type_named}
@@ -230,7 +230,7 @@ module _ (d : Declared) (scope : Scope) where
         where
           chained : (m : Option Meaning) → HasValue (value_of d hidden known first) m → (os : Option (List Operand)) → ((all : List Operand) → os ≡ Some all → LinksHave d hidden known links all)
               → HasValue (ended (links_value d hidden known op (started (value_of d hidden known first)) links))
-              (option_and_then (meaning_of_operator (sort_of op)) (in_front (option_map (operand_at (place_of (resolved_expr k first))) m) os))
+              (option_and_then (meaning_of_operator (operator_kind op)) (in_front (option_map (operand_at (place_of (resolved_expr k first))) m) os))
           chained None h os l = tt
           chained (Some m) h None l = tt
           chained (Some m) h (Some os) l = chain-value d hidden known first links (record { at = place_of (resolved_expr k first); of = m }) os h (l os refl) op

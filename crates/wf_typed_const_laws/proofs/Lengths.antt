@@ -24,7 +24,7 @@ use Rattle.wf_parse.proofs.ReadForms.{packages_are_well_formed}
 use Rattle.wf_names_rules.specs.Declarations.{Declared, Structure, Variable, declared, variables, structs_of, as_variable, struct_named, text_of}
 use Rattle.wf_names_rules.specs.NameRules.{Breaks, by_use, by_size, unknown_variable, too_long_array, unknown, field}
 use Rattle.wf_names_rules.specs.Uses as uses
-use Rattle.wf_names_rules.specs.Uses.{Use, Scope, Site, struct_scope, constant_sites, struct_sites, method_sites, sites, sites_in, type_uses, uses_of, variable_uses}
+use Rattle.wf_names_rules.specs.Uses.{Use, Site, struct_scope, constant_sites, struct_sites, method_sites, sites, type_uses, uses_of, variable_uses}
 use Rattle.wf_names_rules.specs.Sizes.{is_too_long, number_or_zero, hidden_by}
 use Rattle.wf_names_rules.specs.ConstantValues.{Sized, Valued, value_of, known_constants}
 use Rattle.wf_names_resolve.specs.Standing.{Standing, standing_at}
@@ -283,14 +283,14 @@ structs-formed (parsed.constant public name of value at ∷ decls) h = structs-f
 structs-formed (parsed.structure public name mark fields at ∷ decls) h = let parts = both (formed_fields fields) (list_all well_formed decls) h in (fields-formed fields parts.0, structs-formed decls parts.1)
 structs-formed (parsed.method public owner name mark args result body at ∷ decls) h = structs-formed decls (both (well_formed (parsed.method public owner name mark args result body at)) (list_all well_formed decls) h).1
 
-module _ (name : List ℕ) (texts : List (List ℕ)) (decls : List DeclTree) (order : List ℕ) (formed : list_all well_formed decls ≡ true) (kept : (refusal : Refusal) → Breaks (declared texts decls) refusal → ⊥) where
+module _ (name : List ℕ) (texts : List (List ℕ)) (decls : List DeclTree) (order struct_order : List ℕ) (formed : list_all well_formed decls ≡ true) (kept : (refusal : Refusal) → Breaks (declared texts decls) refusal → ⊥) where
   abbrev d : Declared
   d = declared texts decls
 
   abbrev p : NamedPackageTree
-  p = resolved_package name texts decls order
+  p = resolved_package name texts decls order struct_order
 
-  pub agreed : Agree (known_constants (declared texts decls)) (map as_variable (declared texts decls).constants) (constants_of (resolved_package name texts decls order))
+  pub agreed : Agree (known_constants (declared texts decls)) (map as_variable (declared texts decls).constants) (constants_of (resolved_package name texts decls order struct_order))
   agreed = constants-agree d d.constants [] [] [] tt (constants-formed decls formed) (constant-sites-known d kept)
 
   one-value : HasOneValue d p
@@ -326,7 +326,7 @@ module _ (name : List ℕ) (texts : List (List ℕ)) (decls : List DeclTree) (or
       }
 
 pub read_constants_have_one_value : ReadConstantsHaveOneValue
-read_constants_have_one_value name files read is kept order = one-value read.name read.texts (decls_of read) order (packages_are_well_formed name files read is) kept
+read_constants_have_one_value name files read is kept order struct_order = one-value read.name read.texts (decls_of read) order struct_order (packages_are_well_formed name files read is) kept
 
 pub read_arrays_are_bounded : ReadArraysAreBounded
-read_arrays_are_bounded name files read is kept order = bounded-arrays read.name read.texts (decls_of read) order (packages_are_well_formed name files read is) kept
+read_arrays_are_bounded name files read is kept order struct_order = bounded-arrays read.name read.texts (decls_of read) order struct_order (packages_are_well_formed name files read is) kept

@@ -9,7 +9,7 @@ use Rattle.wf_ast.specs.declared.operators.Op.{Op}
 use Rattle.wf_ast.specs.declared.operators.Op.TheVariants as ops
 use Rattle.wf_ast.specs.TypedTree.{Arith, minus, divided, remainder, shift_left, shift_right, mod_plus, mod_minus, mod_times, mod_shift_left, sat_plus, sat_minus}
 use Rattle.wf_ast.specs.Value.{applied, fitted, only_if}
-use Rattle.wf_names_rules.specs.ConstantValues.{Sized, bits_or_most, joined_number, shifted_number}
+use Rattle.wf_names_rules.specs.ConstantValues.{bits_or_most, joined_number, shifted_number}
 use Rattle.wf_names_rules.specs.ConstantValues as by_names
 use Rattle.wf_types_rules.specs.Operands.{bits_in}
 use Rattle.wf_typed_const_laws.specs.OneValue.{sized}

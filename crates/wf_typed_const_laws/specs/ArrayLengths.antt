@@ -30,4 +30,4 @@ pub record HasBoundedArrays (p : PackageTree) : Type 0 where
 abbrev pub ReadArraysAreBounded : Type 0
 ReadArraysAreBounded =
     (name : List ℕ) (files : List (List ℕ)) (read : Parsed) → IsParsed name files read → ((refusal : Refusal) → Breaks (declared read.texts (decls_of read)) refusal → ⊥)
-    → (order : List ℕ) → HasBoundedArrays (typed_package (resolved_package read.name read.texts (decls_of read) order))
+    → (order struct_order : List ℕ) → HasBoundedArrays (typed_package (resolved_package read.name read.texts (decls_of read) order struct_order))

@@ -59,4 +59,4 @@ pub record HasOneValue (d : Declared) (p : NamedPackageTree) : Type 0 where
 abbrev pub ReadConstantsHaveOneValue : Type 0
 ReadConstantsHaveOneValue =
     (name : List ℕ) (files : List (List ℕ)) (read : Parsed) → IsParsed name files read → ((refusal : Refusal) → Breaks (declared read.texts (decls_of read)) refusal → ⊥)
-    → (order : List ℕ) → HasOneValue (declared read.texts (decls_of read)) (resolved_package read.name read.texts (decls_of read) order)
+    → (order struct_order : List ℕ) → HasOneValue (declared read.texts (decls_of read)) (resolved_package read.name read.texts (decls_of read) order struct_order)

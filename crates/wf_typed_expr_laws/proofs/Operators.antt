@@ -6,13 +6,13 @@ use Rattle.wf_base.specs.declared.widths.Width.{Width}
 use Rattle.wf_base.specs.BaseTable.{bits_of}
 use Rattle.wf_ast.specs.declared.types.Ty.TheVariants as types
 use Rattle.wf_ast.specs.TypedTree.{Arith, Order, less, at_most, equal, differs, at_least, greater}
-use Rattle.wf_ast.specs.TypedTrees.{Sort, arithmetic, ordering, joining}
+use Rattle.wf_ast.specs.TypedTrees.{OperatorKind, arithmetic, ordering, joining}
 use Rattle.wf_ast.specs.WellTyped.{is_shift}
 use Rattle.wf_types_rules.specs.declared.meanings.Meaning.{Meaning}
 use Rattle.wf_types_rules.specs.declared.meanings.Meaning.TheVariants as meanings
 use Rattle.wf_types_rules.specs.declared.meanings.Operand.{Operand}
 use Rattle.wf_types_rules.specs.Meanings as meant
-use Rattle.wf_types_rules.specs.Meanings.{all_of, is_number, is_flag, is_status, is_constant, constant_number}
+use Rattle.wf_types_rules.specs.Meanings.{is_number, is_flag, is_status, is_constant, constant_number}
 use Rattle.wf_types_rules.specs.Operands.{first_not, first_of, not_of_one_width, not_shifted, fits_width, common_width, left_width, bits_in, width_given, constant_value, with_number, constants_in, constant_of, number_in, computed, meaning_of_operator}
 use Rattle.wf_typed_tree.proofs.NumberLemmas.{same-bits}
 use Rattle.wf_typed_tree.proofs.OperandLaws.{Taken, taken-parts, first-holds, fits_in, AllFit, one-width-parts, all-fit}
@@ -146,7 +146,7 @@ same-gives : (op : Order) (o : Operand) (os : List Operand) → (op ≡ equal) �
 same-gives op o os which true e h k = one_status op (meanings_in (o ∷ os)) which (e, all-hold is_status os h)
 same-gives op o os which false e h k = order-gives op (o ∷ os) h k
 
-pub operator-gives : (sort : Sort) (a b : Operand) (os : List Operand) (m : Meaning) → meaning_of_operator sort (a ∷ b ∷ os) ≡ Some m → Gives sort (meanings_in (a ∷ b ∷ os)) m
+pub operator-gives : (sort : OperatorKind) (a b : Operand) (os : List Operand) (m : Meaning) → meaning_of_operator sort (a ∷ b ∷ os) ≡ Some m → Gives sort (meanings_in (a ∷ b ∷ os)) m
 operator-gives (arithmetic op) a b os m h =
     let r = taken-parts (arithmetic op) (a ∷ b ∷ os) m h in
     by_shift (is_shift op) refl r.taken r.fitting refl r.gives

@@ -7,13 +7,12 @@ use Rattle.wf_base.specs.declared.base_methods.BaseSig.TheVariants as sigs
 use Rattle.wf_base.specs.BaseTable.{row_of}
 use Rattle.wf_ast.specs.declared.types.Ty.{Ty}
 use Rattle.wf_ast.specs.declared.types.Ty.TheVariants as types
-use Rattle.wf_ast.specs.TypedTree.{NumTree, CondTree, Arith, Order, less, at_most, equal, differs, at_least, greater, ValueTree, numeric, logical, state, elements, io, lost}
+use Rattle.wf_ast.specs.TypedTree.{NumTree, CondTree, Arith, Order, equal, differs, ValueTree, numeric, state}
 use Rattle.wf_ast.specs.TypedTree as typed
-use Rattle.wf_ast.specs.TypedTrees.{Sort, arithmetic, ordering, joining, sort_of, num_in, cond_in, named, num_type, num_chain, cond_chain, first_sign, comparison, chain_of, answer_of}
+use Rattle.wf_ast.specs.TypedTrees.{OperatorKind, arithmetic, ordering, joining, operator_kind, num_in, cond_in, named, num_type, num_chain, cond_chain, first_sign, comparison, chain_of, answer_of}
 use Rattle.wf_ast.specs.WellTyped.{is_pure}
 use Rattle.wf_named.specs.declared.nodes.NamedCallee.TheVariants as callees
 use Rattle.wf_named.specs.NamedTree as tree
-use Rattle.wf_named.specs.NamedTree.{NamedExprTree, NamedLinkTrees}
 use Rattle.wf_types_rules.specs.declared.meanings.Meaning.{Meaning}
 use Rattle.wf_types_rules.specs.declared.meanings.Meaning.TheVariants as meanings
 use Rattle.wf_types_rules.specs.Meanings.{variable, is_value}
@@ -41,7 +40,7 @@ comparison-place at sign equal (state a) b = refl
 comparison-place at sign differs (state a) b = refl
 comparison-place at sign op a b = refl
 
-chain-place : (at : Place) (signs : List Place) (ty : Ty) (sort : Sort) (t u : ValueTree) (ts : List ValueTree) → value_place (chain_of at signs ty sort (t ∷ u ∷ ts)) ≡ at
+chain-place : (at : Place) (signs : List Place) (ty : Ty) (sort : OperatorKind) (t u : ValueTree) (ts : List ValueTree) → value_place (chain_of at signs ty sort (t ∷ u ∷ ts)) ≡ at
 chain-place at signs ty (arithmetic op) t u ts = num-begun-place at op (num_type ty).bits (num_in t) u ts signs
 chain-place at signs ty (joining both) t u ts = cond-chain-place at both true (typed.junction at both false (cond_in t) (cond_in u)) ts refl
 chain-place at signs ty (ordering op) t u ts = comparison-place at (first_sign at signs) op t u
@@ -110,8 +109,8 @@ trees-keep-places s (tree.chain op first tree.no_link at) m g h = absurd (cc g)
 trees-keep-places s (tree.chain op first (tree.link sign e others) at) m g h =
     let c = tree.chain op first (tree.link sign e others) at in
     let links = tree.link sign e others in
-    number-place at (number_of s c) (chain_of at (signs_in links) (type_of s c) (sort_of op) (expr_tree s first ∷ link_trees s links))
-    (chain-place at (signs_in links) (type_of s c) (sort_of op) (expr_tree s first) (expr_tree s e) (link_trees s others))
+    number-place at (number_of s c) (chain_of at (signs_in links) (type_of s c) (operator_kind op) (expr_tree s first ∷ link_trees s links))
+    (chain-place at (signs_in links) (type_of s c) (operator_kind op) (expr_tree s first) (expr_tree s e) (link_trees s others))
 trees-keep-places s (tree.convert e t at) m g h =
     let c = tree.convert e t at in
     number-place at (number_of s c) (numeric (typed.convert at at (num_type (type_of s c)).bits (num_in (expr_tree s e)))) refl

@@ -7,7 +7,7 @@ use Rattle.wf_base.specs.declared.widths.Width.{Width}
 use Rattle.wf_base.specs.BaseTable.{bits_of, row_of}
 use Rattle.wf_ast.specs.declared.types.Ty.{Ty}
 use Rattle.wf_ast.specs.declared.types.Ty.TheVariants as types
-use Rattle.wf_ast.specs.TypedTrees.{sort_of}
+use Rattle.wf_ast.specs.TypedTrees.{operator_kind}
 use Rattle.wf_ast.specs.WellTyped.{is_pure}
 use Rattle.wf_named.specs.declared.nodes.NamedCallee.TheVariants as callees
 use Rattle.wf_named.specs.NamedTree as tree
@@ -23,7 +23,7 @@ use Rattle.wf_types_rules.specs.ExprTypes.{only_where, element_of, slice_in, giv
 use Rattle.wf_typed_tree.proofs.NumberLemmas.{both, equal-numbers, then-parts, map-parts, where-parts}
 use Rattle.wf_typed_tree.proofs.ExprLaws.{numbered}
 use Rattle.wf_typed_expr_laws.specs.Typing as is
-use Rattle.wf_typed_expr_laws.specs.Typing.{HasElements, IsSliced, HasType, IsEnd, HaveTypes, Gives}
+use Rattle.wf_typed_expr_laws.specs.Typing.{HasElements, IsSliced, HasType, IsEnd, HaveTypes}
 use Rattle.wf_typed_expr_laws.specs.ExprLaws.{MeaningsAreTyped}
 use Rattle.wf_typed_expr_laws.proofs.Operators.{meanings_in, operator-gives}
 
@@ -113,13 +113,13 @@ module _ (s : Setting) where
     expr-typed (tree.chain op first (tree.link sign e others) at) m g h =
         let links = tree.link sign e others in
         let gs = (both (by_grammar first) (links_by_grammar links) (both (has_operands op links) (by_grammar first && links_by_grammar links) g).1) in
-        let it = then-parts (meaning_of_operator (sort_of op)) (in_front (option_map (operand_at (place_of first)) (meaning s first)) (operands_behind s links)) m h in
+        let it = then-parts (meaning_of_operator (operator_kind op)) (in_front (option_map (operand_at (place_of first)) (meaning s first)) (operands_behind s links)) m h in
         let f = front-parts (option_map (operand_at (place_of first)) (meaning s first)) (operands_behind s links) it.of it.is in
         let o = map-parts (operand_at (place_of first)) (meaning s first) f.first f.here in
         let q = front-parts (option_map (operand_at (place_of e)) (meaning s e)) (operands_behind s others) f.rest f.behind in
-        let P : List Operand → Type 0 = λ os. meaning_of_operator (sort_of op) os ≡ Some m in
-        let Q : List Operand → Type 0 = λ os. meaning_of_operator (sort_of op) (f.first ∷ os) ≡ Some m in
-        let given = operator-gives (sort_of op) f.first q.first q.rest m (subst Q (sym q.is) (subst P (sym f.is) it.gives)) in
+        let P : List Operand → Type 0 = λ os. meaning_of_operator (operator_kind op) os ≡ Some m in
+        let Q : List Operand → Type 0 = λ os. meaning_of_operator (operator_kind op) (f.first ∷ os) ≡ Some m in
+        let given = operator-gives (operator_kind op) f.first q.first q.rest m (subst Q (sym q.is) (subst P (sym f.is) it.gives)) in
         let first_is : o.of ≡ f.first.of = ap (λ (x : Operand). x.of) o.gives in
         let gl = both (by_grammar e) (links_by_grammar others) gs.1 in
         let second = map-parts (operand_at (place_of e)) (meaning s e) q.first q.here in

@@ -11,7 +11,7 @@ use Rattle.wf_ast.specs.declared.operators.Op.{Op}
 use Rattle.wf_ast.specs.declared.types.Ty.{Ty}
 use Rattle.wf_ast.specs.declared.types.Ty.TheVariants as types
 use Rattle.wf_ast.specs.TypedTree.{Arith, Order, equal, differs}
-use Rattle.wf_ast.specs.TypedTrees.{Sort, arithmetic, ordering, joining, sort_of}
+use Rattle.wf_ast.specs.TypedTrees.{OperatorKind, arithmetic, ordering, joining, operator_kind}
 use Rattle.wf_ast.specs.WellTyped.{is_pure, is_shift}
 use Rattle.wf_named.specs.declared.nodes.NamedCallee.TheVariants as callees
 use Rattle.wf_named.specs.declared.nodes.NamedPath.{NamedPath}
@@ -53,7 +53,7 @@ abbrev pub AreConstants : List Meaning → List ℕ → Type 0
 AreConstants ms ns = map constant_number ms ≡ map (λ n. Some n) ns
 
 -- What an operator takes, and what it gives.
-pub data Gives : Sort → List Meaning → Meaning → Type 0 where
+pub data Gives : OperatorKind → List Meaning → Meaning → Type 0 where
   a_number : (op : Arith) (ms : List Meaning) (width : Width) → is_shift op ≡ false → AreOfOneWidth (Some width) ms → Vary ms → Gives (arithmetic op) ms (meanings.Typed (all_of width))
   a_constant : (op : Arith) (ms : List Meaning) (width : Option Width) (ns : List ℕ) (value : ℕ) → is_shift op ≡ false → AreOfOneWidth width ms → AreConstants ms ns
       → constant_value op (bits_in width) ns ≡ Some value → Gives (arithmetic op) ms (meanings.Constant width value)
@@ -88,7 +88,7 @@ mutual
     of_answer : (on : NamedPath) (held : Meaning) (sig : BaseSig) (at : Place) (mark : Mark) (args : NamedArgTrees) (ty : Ty) → variable s on.of ≡ Some held → is_pure (row_of sig).mark ≡ true → is_pure mark ≡ true
         → given_by_base (row_of sig).gives ≡ Some ty → HasType s (tree.answer (tree.call (callees.Base on sig) at mark args)) (meanings.Typed ty)
     of_operator : (op : Op) (first : NamedExprTree) (links : NamedLinkTrees) (at : Place) (m : Meaning) (ms : List Meaning) (given : Meaning) → HasType s first m → HaveTypes s links ms
-        → Gives (sort_of op) (m ∷ ms) given → HasType s (tree.chain op first links at) given
+        → Gives (operator_kind op) (m ∷ ms) given → HasType s (tree.chain op first links at) given
     of_conversion : (e : NamedExprTree) (t : NamedTypeTree) (at : Place) (m : Meaning) (width : Width) → HasType s e m → plain_width t ≡ Some width → is_number m ≡ true → is_constant m ≡ false
         → HasType s (tree.convert e t at) (meanings.Typed (all_of width))
     of_converted_constant : (e : NamedExprTree) (t : NamedTypeTree) (at : Place) (own : Option Width) (value : ℕ) (width : Width) → HasType s e (meanings.Constant own value) → plain_width t ≡ Some width

@@ -14,7 +14,7 @@ use Rattle.wf_ast.specs.declared.types.Ty.TheVariants as types
 use Rattle.wf_ast.specs.declared.typed_code.Expr.TheVariants as exprs
 use Rattle.wf_ast.specs.declared.typed_nodes.TypedNodes.{TypedNodes}
 use Rattle.wf_ast.specs.TypedTree.{Arith, plus, times, bits_and, bits_or, bits_xor, less, at_most, equal, differs, at_least, greater}
-use Rattle.wf_ast.specs.TypedTrees.{Sort, arithmetic, ordering, joining, sort_of, made_or_number, tree_of, type_of_node, chain_of}
+use Rattle.wf_ast.specs.TypedTrees.{OperatorKind, arithmetic, ordering, joining, operator_kind, made_or_number, tree_of, type_of_node, chain_of}
 use Rattle.wf_ast.specs.TypedInvariant.{is_numeric, is_logical, is_state, chain_fits, node_fits}
 use Rattle.wf_ast.specs.WellTyped.{is_shift}
 use Rattle.wf_ast.specs.OperatorForms.{repeats}
@@ -35,7 +35,7 @@ use Rattle.wf_typed_tree.proofs.NumberLemmas.{both, and-true, or-left, or-right,
 use Rattle.wf_typed_tree.proofs.OperandLaws.{taken-parts, first-holds, one-width-parts}
 use Rattle.wf_typed_tree.proofs.AllOperators.{shift-parts}
 use Rattle.wf_typed_tree.proofs.ExprLaws.{expr-means}
-use Rattle.wf_typed_exprs.specs.declared.elaborated.MadeOperands.{MadeOperands}
+use Rattle.wf_typed_exprs.specs.declared.operands.MadeOperands.{MadeOperands}
 use Rattle.wf_typed_exprs.specs.Nodes.{number_meant, StandsForExpr, MakesExpr}
 use Rattle.wf_typed_exprs.specs.Chains.{StandForLinks, AreOperands}
 use Rattle.wf_typed_exprs.specs.Right.{Around, IsRight, AreRight}
@@ -150,7 +150,7 @@ module _ (nodes : TypedNodes) where
           or-left (is_numeric (type_of_node nodes e.0) && is_numeric (type_of_node nodes f.0)) (is_state (type_of_node nodes e.0) && is_state (type_of_node nodes f.0)) (numbers-compared e f o q h k)
 
   -- Two operands.
-  two-fit : (sort : Sort) (e f : ExprId) (o q : Operand) (ty : Ty) → TypesAre nodes (e ∷ f ∷ []) (o ∷ q ∷ []) → not_taken sort (o ∷ q ∷ []) ≡ None
+  two-fit : (sort : OperatorKind) (e f : ExprId) (o q : Operand) (ty : Ty) → TypesAre nodes (e ∷ f ∷ []) (o ∷ q ∷ []) → not_taken sort (o ∷ q ∷ []) ≡ None
       → given sort (o ∷ q ∷ []) ≡ Some (meanings.Typed ty) → chain_fits nodes sort (e ∷ f ∷ []) ty ≡ true
   two-fit (arithmetic op) e f o q ty h taken gives = by_shift (is_shift op) refl
     where
@@ -169,8 +169,8 @@ module _ (nodes : TypedNodes) where
   two-fit (ordering greater) e f o q ty h taken gives = and-true (is_logical ty) _ (flag-given ty gives) (numbers-compared e f o q h taken)
 
   -- Two or more, of an operator that may stand in a row.
-  row-fit : (op : Op) (e f : ExprId) (es : List ExprId) (os : List Operand) (ty : Ty) → repeats op ≡ true → TypesAre nodes (e ∷ f ∷ es) os → not_taken (sort_of op) os ≡ None
-      → given (sort_of op) os ≡ Some (meanings.Typed ty) → chain_fits nodes (sort_of op) (e ∷ f ∷ es) ty ≡ true
+  row-fit : (op : Op) (e f : ExprId) (es : List ExprId) (os : List Operand) (ty : Ty) → repeats op ≡ true → TypesAre nodes (e ∷ f ∷ es) os → not_taken (operator_kind op) os ≡ None
+      → given (operator_kind op) os ≡ Some (meanings.Typed ty) → chain_fits nodes (operator_kind op) (e ∷ f ∷ es) ty ≡ true
   row-fit ops.Add e f es os ty r h taken gives = numbers-fit plus e f es os ty refl h taken gives
   row-fit ops.Mul e f es os ty r h taken gives = numbers-fit times e f es os ty refl h taken gives
   row-fit ops.BitAnd e f es os ty r h taken gives = numbers-fit bits_and e f es os ty refl h taken gives
@@ -183,16 +183,16 @@ module _ (nodes : TypedNodes) where
 module _ (s : Setting) (nodes : TypedNodes) where
   chain-kinds : (op : Op) (links : NamedLinkTrees) (e : ExprId) (es : List ExprId) (o : Operand) (os : List Operand) (ty : Ty) → has_operands op links ≡ true
       → type_of_node nodes e.0 ≡ type_meant (Some o.of) → StandForLinks s links nodes es → operands_behind s links ≡ Some os
-      → not_taken (sort_of op) (o ∷ os) ≡ None → given (sort_of op) (o ∷ os) ≡ Some (meanings.Typed ty) → chain_fits nodes (sort_of op) (e ∷ es) ty ≡ true
+      → not_taken (operator_kind op) (o ∷ os) ≡ None → given (operator_kind op) (o ∷ os) ≡ Some (meanings.Typed ty) → chain_fits nodes (operator_kind op) (e ∷ es) ty ≡ true
   chain-kinds op no_link e es o os ty g t h k taken gives = absurd (cc g)
   chain-kinds op (link sign u no_link) e (f ∷ []) o os ty g t h k taken gives =
       let p = front s u (Some []) os k in
       let none : [] ≡ p.rest = let same : Some [] ≡ Some p.rest = p.behind in cc same in
       let q = operand_at (place_of u) p.of in
       let two : q ∷ [] ≡ os = ap (λ rest. q ∷ rest) none ∙ p.is in
-      let T : List Operand → Type 0 = λ all. not_taken (sort_of op) (o ∷ all) ≡ None in
-      let G : List Operand → Type 0 = λ all. given (sort_of op) (o ∷ all) ≡ Some (meanings.Typed ty) in
-      two-fit nodes (sort_of op) e f o q ty (t, (h.0.typed ∙ ap type_meant p.means, tt)) (subst T (sym two) taken) (subst G (sym two) gives)
+      let T : List Operand → Type 0 = λ all. not_taken (operator_kind op) (o ∷ all) ≡ None in
+      let G : List Operand → Type 0 = λ all. given (operator_kind op) (o ∷ all) ≡ Some (meanings.Typed ty) in
+      two-fit nodes (operator_kind op) e f o q ty (t, (h.0.typed ∙ ap type_meant p.means, tt)) (subst T (sym two) taken) (subst G (sym two) gives)
   chain-kinds op (link sign u (link sign_behind v others)) e (f ∷ es) o os ty g t h k taken gives =
       row-fit nodes op e f es (o ∷ os) ty g (t, links-typed s nodes (link sign u (link sign_behind v others)) (f ∷ es) os h k) taken gives
   chain-kinds op (link sign u no_link) e [] o os ty g t h k taken gives = absurd h
@@ -214,7 +214,7 @@ module _ (s : Setting) (nodes : TypedNodes) where
   links-made (link sign t others) [] h = absurd h
 
   number-first : (at : Place) (signs : List Place) (ty : Ty) (k : Option ℕ) (op : Op) (es : List ExprId)
-      → made_or_number (tree_of nodes) at signs ty k (exprs.Chain op es) ≡ number_or at k (chain_of at signs ty (sort_of op) (map (tree_of nodes) es))
+      → made_or_number (tree_of nodes) at signs ty k (exprs.Chain op es) ≡ number_or at k (chain_of at signs ty (operator_kind op) (map (tree_of nodes) es))
   number-first at signs ty None op es = refl
   number-first at signs ty (Some v) op es = refl
 
@@ -233,7 +233,7 @@ module _ (s : Setting) (nodes : TypedNodes) where
       let grammar = both (has_operands op links) (by_grammar first && links_by_grammar links) right.grammar in
       let inside = both (by_grammar first) (links_by_grammar links) grammar.1 in
       let named = both (named_expr right.around.names first) (named_links right.around.names links) right.named in
-      let all = then-parts (meaning_of_operator (sort_of op)) (operands s first links) right.of right.means in
+      let all = then-parts (meaning_of_operator (operator_kind op)) (operands s first links) right.of right.means in
       let p = front s first (operands_behind s links) all.of all.is in
       (record { around = right.around; grammar = inside.0; named = named.0; of = p.of; means = p.means }, links-right k right.around links p.rest inside.1 named.1 p.behind)
 
@@ -249,19 +249,19 @@ module _ (s : Setting) (nodes : TypedNodes) where
   chain-fit op first links at e es (meanings.Constant w v) right h hs is = constant-fits nodes w v (exprs.Chain op (e ∷ es)) (number-fits (chain op first links at) right w v is)
   chain-fit op first links at e es (meanings.Typed ty) right h hs is =
       let grammar = both (has_operands op links) (by_grammar first && links_by_grammar links) right.grammar in
-      let all = then-parts (meaning_of_operator (sort_of op)) (operands s first links) (meanings.Typed ty) is in
+      let all = then-parts (meaning_of_operator (operator_kind op)) (operands s first links) (meanings.Typed ty) is in
       let p = front s first (operands_behind s links) all.of all.is in
-      let O : List Operand → Type 0 = λ os. meaning_of_operator (sort_of op) os ≡ Some (meanings.Typed ty) in
+      let O : List Operand → Type 0 = λ os. meaning_of_operator (operator_kind op) os ≡ Some (meanings.Typed ty) in
       let o = operand_at (place_of first) p.of in
-      let taken = taken-parts (sort_of op) (o ∷ p.rest) (meanings.Typed ty) (subst O (sym p.is) all.gives) in
+      let taken = taken-parts (operator_kind op) (o ∷ p.rest) (meanings.Typed ty) (subst O (sym p.is) all.gives) in
       chain-kinds op links e es o p.rest ty grammar.0 (h.typed ∙ ap type_meant p.means) hs p.behind taken.taken taken.gives
 
   pub chain-makes : (op : Op) (first : NamedExprTree) (links : NamedLinkTrees) (at : Place) (all : MadeOperands) → IsRight s (length nodes.statuses) (chain op first links at)
       → AreOperands s first links nodes all
-      → MakesExpr s (chain op first links at) nodes (record { node = record { expr = exprs.Chain op all.parts; at = at; signs = all.signs }; of = option_and_then (meaning_of_operator (sort_of op)) all.of })
+      → MakesExpr s (chain op first links at) nodes (record { node = record { expr = exprs.Chain op all.parts; at = at; signs = all.signs }; of = option_and_then (meaning_of_operator (operator_kind op)) all.of })
   chain-makes op first links at all right h =
       let es = h.head ∷ h.others in
-      let made : MakesExpr s (chain op first links at) nodes (record { node = record { expr = exprs.Chain op es; at = at; signs = signs_in links }; of = option_and_then (meaning_of_operator (sort_of op)) (operands s first links) }) =
+      let made : MakesExpr s (chain op first links at) nodes (record { node = record { expr = exprs.Chain op es; at = at; signs = signs_in links }; of = option_and_then (meaning_of_operator (operator_kind op)) (operands s first links) }) =
       record {
         placed = refl;
         means = refl;
@@ -272,7 +272,7 @@ module _ (s : Setting) (nodes : TypedNodes) where
             subst F (sym right.means) (chain-fit op first links at h.head h.others right.of right h.stands h.stand right.means);
         tree_is =
             number-first at (signs_in links) (type_meant (meaning s (chain op first links at))) (number_meant (meaning s (chain op first links at))) op es
-            ∙ ap (λ ts. number_or at (number_meant (meaning s (chain op first links at))) (chain_of at (signs_in links) (type_meant (meaning s (chain op first links at))) (sort_of op) ts))
+            ∙ ap (λ ts. number_or at (number_meant (meaning s (chain op first links at))) (chain_of at (signs_in links) (type_meant (meaning s (chain op first links at))) (operator_kind op) ts))
             (let t = h.stands.tree_is in let ts = links-made links h.others h.stand in let e : map (tree_of nodes) es ≡ expr_tree s first ∷ link_trees s links = rw (t, ts) refl in e);
       } in
       rw (h.parts, h.signs, h.means) made

@@ -20,7 +20,6 @@ use Rattle.wf_ast.specs.declared.types.Ty.TheVariants as types
 use Rattle.wf_ast.specs.declared.typed_code.Expr.{Expr}
 use Rattle.wf_ast.specs.declared.typed_code.Expr.TheVariants as exprs
 use Rattle.wf_ast.specs.declared.typed_nodes.TypedNodes.{TypedNodes}
-use Rattle.wf_ast.specs.TypedTree as typed
 use Rattle.wf_ast.specs.TypedTree.{ValueTree, numeric, elements, element, cut}
 use Rattle.wf_ast.specs.TypedTrees.{made_or_number, tree_of, type_of_node, end_in, num_type, num_in, slice_in, answer_of}
 use Rattle.wf_ast.specs.TypedInvariant.{parts_below, is_numeric, is_logical, is_state, is_list, is_io, is_given, has_kind, node_fits, optional_numeric}

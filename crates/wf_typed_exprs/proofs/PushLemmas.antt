@@ -12,7 +12,7 @@ use Rattle.wf_ast.specs.declared.typed_code.Expr.TheVariants as exprs
 use Rattle.wf_ast.specs.declared.typed_code.ExprNode.{ExprNode}
 use Rattle.wf_ast.specs.declared.typed_nodes.TypedNodes.{TypedNodes}
 use Rattle.wf_ast.specs.TypedTree.{ValueTree, lost}
-use Rattle.wf_ast.specs.TypedTrees.{Sort, arithmetic, ordering, joining, sort_of, made_or_number, tree_in, tree_of, expr_trees, exprs_after, type_of_node, constant_of_node}
+use Rattle.wf_ast.specs.TypedTrees.{OperatorKind, arithmetic, ordering, joining, operator_kind, made_or_number, tree_in, tree_of, expr_trees, exprs_after, type_of_node, constant_of_node}
 use Rattle.wf_ast.specs.TypedInvariant.{parts_of, parts_below, each_numbered, is_numeric, is_logical, kind_fits, chain_fits, node_fits}
 use Rattle.wf_ast.proofs.Arena.{both_true, get_front, get_seam}
 use Rattle.wf_typed_tree.proofs.NumberLemmas.{and-true}
@@ -61,7 +61,7 @@ same_tests : (test : Ty → Bool) (p q : TypedNodes) (es : List ExprId) → Same
 same_tests test p q [] h = refl
 same_tests test p q (e ∷ es) h = let a = h.0 in let b = same_tests test p q es h.1 in rw (a, b) refl
 
-chain_same : (p q : TypedNodes) (sort : Sort) (es : List ExprId) (ty : Ty) → SameTypes p q es → chain_fits q sort es ty ≡ chain_fits p sort es ty
+chain_same : (p q : TypedNodes) (sort : OperatorKind) (es : List ExprId) (ty : Ty) → SameTypes p q es → chain_fits q sort es ty ≡ chain_fits p sort es ty
 chain_same p q (arithmetic op) [] ty h = refl
 chain_same p q (arithmetic op) (e ∷ []) ty h = refl
 chain_same p q (arithmetic op) (e ∷ f ∷ es) ty h = ap (λ b. is_numeric ty && b) (same_tests is_numeric p q (e ∷ f ∷ es) h)
@@ -86,7 +86,7 @@ kind_same p q s ty (exprs.Cut base None None) h = rw h.0 refl
 kind_same p q s ty (exprs.Cut base None (Some to)) h = rw (h.0, h.1.0) refl
 kind_same p q s ty (exprs.Cut base (Some from) None) h = rw (h.0, h.1.0) refl
 kind_same p q s ty (exprs.Cut base (Some from) (Some to)) h = rw (h.0, h.1.0, h.1.1.0) refl
-kind_same p q s ty (exprs.Chain op parts) h = chain_same p q (sort_of op) parts ty h
+kind_same p q s ty (exprs.Chain op parts) h = chain_same p q (operator_kind op) parts ty h
 kind_same p q s ty (exprs.Convert of to) h = rw h.0 refl
 kind_same p q s ty (exprs.Not of) h = rw h.0 refl
 kind_same p q s ty (exprs.Base on sig) h = rw h.0 refl

@@ -15,7 +15,7 @@ use Rattle.wf_types_rules.specs.ExprTypes.{meaning, in_front, operand_at, operan
 use Rattle.wf_types_exprs.specs.Judged.{operand_pushed, operand_behind, operands_joined}
 use Rattle.wf_types_exprs.proofs.ListLemmas.{drop-one}
 use Rattle.wf_typed_tree.specs.ElaboratedExprs.{signs_in, expr_tree}
-use Rattle.wf_typed_exprs.specs.declared.elaborated.MadeOperands.{MadeOperands}
+use Rattle.wf_typed_exprs.specs.declared.operands.MadeOperands.{MadeOperands}
 use Rattle.wf_typed_exprs.specs.Growth.{Grows}
 use Rattle.wf_typed_exprs.specs.Chains.{AddsOperand, AddsLinks}
 use Rattle.wf_typed_exprs.specs.Right.{IsRight, IsRightEnd, AreRight}

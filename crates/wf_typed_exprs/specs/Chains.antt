@@ -8,7 +8,7 @@ use Rattle.wf_types_rules.specs.ExprTypes.{operands_behind, operands}
 use Rattle.wf_types_rules.specs.Judgements.{value_of}
 use Rattle.wf_types_exprs.specs.Judged.{operand_behind, operands_joined}
 use Rattle.wf_typed_tree.specs.ElaboratedExprs.{signs_in}
-use Rattle.wf_typed_exprs.specs.declared.elaborated.MadeOperands.{MadeOperands}
+use Rattle.wf_typed_exprs.specs.declared.operands.MadeOperands.{MadeOperands}
 use Rattle.wf_typed_exprs.specs.Nodes.{StandsForExpr}
 
 -- These nodes stand for the operands after a chain's first, in order.

@@ -5,7 +5,7 @@ use Rattle.wf_ast.specs.declared.typed_code.Expr.{Expr}
 use Rattle.wf_ast.specs.declared.typed_code.Expr.TheVariants as exprs
 use Rattle.wf_named.specs.declared.nodes.Variable.{Variable}
 use Rattle.wf_named.specs.declared.nodes.Variable.TheVariants as variables
-use Rattle.wf_types_rules.specs.declared.meanings.Value.{Value}
+use Rattle.wf_types_rules.specs.declared.meanings.PlacedMeaning.{PlacedMeaning}
 use Rattle.wf_typed_exprs.specs.declared.elaborated.Elaborated.{Elaborated}
 
 -- What names a variable.
@@ -21,6 +21,6 @@ node_of None = None
 node_of (Some e) = Some e.node
 
 -- What it means.
-abbrev pub value_of : Option Elaborated → Option Value
+abbrev pub value_of : Option Elaborated → Option PlacedMeaning
 value_of None = None
 value_of (Some e) = Some e.value

@@ -6,7 +6,7 @@ use Rattle.wf_ast.specs.WellTyped.{Context}
 use Rattle.wf_named.specs.declared.nodes.NamedCall.{NamedCall}
 use Rattle.wf_named.specs.declared.nodes.NamedPath.{NamedPath}
 use Rattle.wf_named.specs.NamedTree.{NamedExprTree, answer, NamedPartTree, absent, present, NamedLinkTrees, no_link, link, NamedArgTrees, call}
-use Rattle.wf_named.specs.WellNamed.{Scope, named_expr}
+use Rattle.wf_named.specs.WellNamed.{NamedScope, named_expr}
 use Rattle.wf_named.specs.Grammar.{by_grammar}
 use Rattle.wf_types_rules.specs.declared.meanings.Meaning.{Meaning}
 use Rattle.wf_types_rules.specs.declared.meanings.Meaning.TheVariants as meanings
@@ -25,7 +25,7 @@ MayStand role tys = (n : ℕ) (ty : Ty) → there (slice_get tys n) ≡ Some ty 
 -- What stands round an expression in the body of a method: for its names, for its types, which are `s`, and in the typed
 -- tree; `statuses` is the number of all statuses.
 pub record Around (s : Setting) (statuses : ℕ) : Type 0 where
-  pub names : Scope
+  pub names : NamedScope
   pub context : Context
   pub agree : Agree names s context
   pub fields : MayStand roles.Field s.fields

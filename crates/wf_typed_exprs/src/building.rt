@@ -9,7 +9,7 @@ use crate::columns::Columns;
 use crate::typed_exprs::TypedExpr;
 use std::alloc::{AllocError, Global};
 use std::marker::Model;
-use wf_ast::{ExprId, Sequence, TypedNodes};
+use wf_ast::{ExprId, TypedNodes};
 
 // How many expressions a typed package may have.
 const NUMBERS: usize = 4294967295;
@@ -78,10 +78,6 @@ impl Building {
         ensures nodes { result ≡ self }
         ensures built { IsBuilt result }
     {
-        let mut whole = self.rest;
-        whole.exprs = Sequence::from_vec(self.columns.exprs);
-        whole.types = Sequence::from_vec(self.columns.types);
-        whole.constants = Sequence::from_vec(self.columns.constants);
-        whole
+        self.columns.join(self.rest)
     }
 }

@@ -1,18 +1,28 @@
 // What is known of expressions, by number, as they are added: a list for each of its parts.
 
 ghost use Rattle.std.specs.Prelude.{◌≡◌, ◌<◌, ◌++◌, [], ◌∷◌, length, if◌then◌else◌, is_ok, vec_len, vec_capacity, OnOk};
+ghost use Rattle.wf_typed_exprs.specs.Growth.{with_columns};
 
 use crate::typed_exprs::TypedExpr;
 use std::alloc::{AllocError, Global};
-use wf_ast::{ExprNode, Ty};
+use wf_ast::{ExprNode, Sequence, Ty, TypedNodes};
 use wf_text::make_room;
 
 /// Expressions: their nodes, their types and their numbers.
-#[derive(Drop)]
 pub(crate) struct Columns {
     pub exprs: Vec<ExprNode>,
     pub types: Vec<Ty>,
     pub constants: Vec<Option<u64>>,
+}
+
+impl Drop for Columns {
+    fn drop(self) {
+        let Columns {
+            exprs: _,
+            types: _,
+            constants: _,
+        } = self;
+    }
 }
 
 impl Columns {
@@ -27,6 +37,22 @@ impl Columns {
             types: Vec::new(alloc),
             constants: Vec::new(alloc),
         }
+    }
+
+    /// The package that has these expressions, and `rest` for all else.
+    pub(crate) fn join(self, rest: TypedNodes) -> TypedNodes
+        ensures { result ≡ with_columns rest self }
+    {
+        let Columns {
+            exprs,
+            types,
+            constants,
+        } = self;
+        let mut whole = rest;
+        whole.exprs = Sequence::from_vec(exprs);
+        whole.types = Sequence::from_vec(types);
+        whole.constants = Sequence::from_vec(constants);
+        whole
     }
 
     /// How many expressions there are.

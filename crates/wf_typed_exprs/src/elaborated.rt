@@ -1,14 +1,13 @@
 // What a walk over the resolved tree answers.
 
-use wf_ast::{ExprId, ExprNode, Sequence};
-use wf_text::Place;
-use wf_types_rules::{Meaning, Operand, Value};
+use wf_ast::{ExprId, ExprNode};
+use wf_types_rules::{Meaning, PlacedMeaning};
 
 /// An expression whose nodes are there: the number of its node, and what it means, with its place.
 #[derive(Clone, Copy, PartialEq, Eq)]
 pub struct Elaborated {
     pub node: ExprId,
-    pub value: Value,
+    pub value: PlacedMeaning,
 }
 
 /// The node of an expression whose parts are there, and what the expression means.
@@ -16,12 +15,4 @@ pub struct Elaborated {
 pub(crate) struct MadeNode {
     pub node: ExprNode,
     pub of: Option<Meaning>,
-}
-
-/// The operands of a chain so far: the numbers of their nodes, the signs between them, and what they mean.
-#[derive(Drop)]
-pub(crate) struct MadeOperands {
-    pub parts: Sequence<ExprId>,
-    pub signs: Sequence<Place>,
-    pub of: Option<Sequence<Operand>>,
 }

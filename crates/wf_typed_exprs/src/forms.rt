@@ -1,7 +1,6 @@
 // The node of each form of expression, by the nodes of its parts and what these mean.
 
 ghost use Rattle.std.specs.Prelude.{◌≡◌, [], None};
-ghost use Rattle.wf_named.specs.NamedTree as tree;
 ghost use Rattle.wf_named.specs.NamedTrees.{core_at, type_at};
 ghost use Rattle.wf_types_rules.specs.Meanings.{variable as variable_in};
 ghost use Rattle.wf_types_rules.specs.ExprTypes.{plain_width as width_written};
@@ -17,7 +16,7 @@ use wf_named::{BaseType, NamedCore, NamedPath, NamedType, Variable};
 use wf_text::Place;
 use wf_types_meanings::variables::variable;
 use wf_types_operators::meanings::all_of;
-use wf_types_rules::{Around, Meaning, Value};
+use wf_types_rules::{Around, Meaning, PlacedMeaning};
 
 /// The type of what means this. A constant has all numbers of its width, and 64 bits where it has none.
 pub fn type_meant(of: Option<Meaning>) -> Ty
@@ -79,7 +78,7 @@ pub(crate) fn path_node(alloc: Global, around: &Around<'_>, path: NamedPath) -> 
 }
 
 /// What an end of a slice means, where it is there.
-pub(crate) fn value_of(end: Option<Elaborated>) -> Option<Value>
+pub(crate) fn value_of(end: Option<Elaborated>) -> Option<PlacedMeaning>
     ensures { result ≡ value_in end }
 {
     Some(end?.value)

@@ -1,49 +1,85 @@
 // The operands of a chain as they grow.
 
-ghost use Rattle.std.specs.Prelude.{◌≡◌, ◌++◌, ◌∷◌, [], Some, IfOk};
+ghost use Rattle.std.specs.Prelude.{◌≡◌, ◌++◌, ◌∷◌, [], Some, IfOk, option_and_then};
+ghost use Rattle.wf_ast.specs.TypedTrees.{operator_kind};
+ghost use Rattle.wf_ast.specs.declared.typed_code.Expr.TheVariants as exprs;
+ghost use Rattle.wf_types_rules.specs.Operands.{meaning_of_operator};
 ghost use Rattle.wf_types_exprs.specs.Judged.{operand_behind as behind};
 
-use crate::elaborated::{Elaborated, MadeOperands};
+use crate::elaborated::{Elaborated, MadeNode};
 use std::alloc::Global;
-use wf_ast::Sequence;
+use wf_ast::{Expr, ExprId, ExprNode, Op, Sequence};
 use wf_text::Place;
 use wf_text::faults::NoMemory;
 use wf_types_exprs::operands::operand_behind;
+use wf_types_exprs::parts::chain_meaning;
+use wf_types_rules::Operand;
 
-/// No operand yet.
-pub(crate) fn no_operand(alloc: Global) -> MadeOperands
-    ensures { result ≡ record { parts = []; signs = []; of = Some [] } }
-{
-    MadeOperands {
-        parts: Sequence::new(alloc),
-        signs: Sequence::new(alloc),
-        of: Some(Sequence::new(alloc)),
+/// The operands of a chain so far: the numbers of their nodes, the signs between them, and what they mean.
+pub(crate) struct MadeOperands {
+    pub parts: Sequence<ExprId>,
+    pub signs: Sequence<Place>,
+    pub of: Option<Sequence<Operand>>,
+}
+
+impl Drop for MadeOperands {
+    fn drop(self) {
+        let MadeOperands {
+            parts: _,
+            signs: _,
+            of: _,
+        } = self;
     }
 }
 
-/// One sign more.
-pub(crate) fn with_sign(before: MadeOperands, sign: Place) -> Result<MadeOperands, NoMemory>
-    ensures { IfOk result (λ all. all ≡ record before { signs = before.signs ++ sign ∷ [] }) }
-{
-    let mut signs = before.signs;
-    signs.push(sign)?;
-    Ok(MadeOperands {
-        parts: before.parts,
-        signs,
-        of: before.of,
-    })
-}
+impl MadeOperands {
+    /// No operand yet.
+    pub(crate) fn new(alloc: Global) -> Self
+        ensures { result ≡ record { parts = []; signs = []; of = Some [] } }
+    {
+        MadeOperands {
+            parts: Sequence::new(alloc),
+            signs: Sequence::new(alloc),
+            of: Some(Sequence::new(alloc)),
+        }
+    }
 
-/// One operand more.
-pub(crate) fn with_operand(before: MadeOperands, next: Elaborated) -> Result<MadeOperands, NoMemory>
-    ensures { IfOk result (λ all. all ≡ record { parts = before.parts ++ next.node ∷ []; signs = before.signs; of = behind before.of next.value }) }
-{
-    let mut parts = before.parts;
-    parts.push(next.node)?;
-    let of = operand_behind(before.of, next.value)?;
-    Ok(MadeOperands {
-        parts,
-        signs: before.signs,
-        of,
-    })
+    /// One sign more.
+    pub(crate) fn with_sign(self, sign: Place) -> Result<Self, NoMemory>
+        ensures { IfOk result (λ all. all ≡ record self { signs = self.signs ++ sign ∷ [] }) }
+    {
+        let mut all = self;
+        all.signs.push(sign)?;
+        Ok(all)
+    }
+
+    /// One operand more.
+    pub(crate) fn with_operand(self, next: Elaborated) -> Result<Self, NoMemory>
+        ensures { IfOk result (λ all. all ≡ record { parts = self.parts ++ next.node ∷ []; signs = self.signs; of = behind self.of next.value }) }
+    {
+        let MadeOperands {
+            mut parts,
+            signs,
+            of,
+        } = self;
+        parts.push(next.node)?;
+        let of = operand_behind(of, next.value)?;
+        Ok(MadeOperands { parts, signs, of })
+    }
+
+    /// The node of the chain of these operands, whose first token is at this place.
+    pub(crate) fn chain(self, op: Op, at: Place) -> MadeNode
+        ensures { result ≡ record { node = record { expr = exprs.Chain op self.parts; at = at; signs = self.signs }; of = option_and_then (meaning_of_operator (operator_kind op)) self.of } }
+    {
+        let MadeOperands { parts, signs, of } = self;
+        let meaning = chain_meaning(op, &of);
+        MadeNode {
+            node: ExprNode {
+                expr: Expr::Chain { op, parts },
+                at,
+                signs,
+            },
+            of: meaning,
+        }
+    }
 }

@@ -17,9 +17,9 @@ ghost use Rattle.wf_typed_exprs.specs.Chains.{AddsOperand, AddsLinks, AreOperand
 ghost use Rattle.wf_typed_exprs.specs.Right.{IsRight, IsRightPath, IsRightAnswer, IsRightEnd, AreRight};
 
 use crate::building::Building;
-use crate::elaborated::{Elaborated, MadeNode, MadeOperands};
+use crate::elaborated::{Elaborated, MadeNode};
 use crate::forms::{node_of, path_node, plain_width, type_meant, unsigned, value_of};
-use crate::operands::{no_operand, with_operand, with_sign};
+use crate::operands::MadeOperands;
 use crate::typed_exprs::TypedExpr;
 use wf_ast::parsed::Link;
 use wf_ast::{Expr, ExprId, ExprNode, Op, Ty};
@@ -27,10 +27,10 @@ use wf_named::{NamedCall, NamedCallee, NamedExpr, NamedPath, NamedType};
 use wf_text::Place;
 use wf_text::faults::NoMemory;
 use wf_types_exprs::Here;
-use wf_types_exprs::parts::{chain_meaning, index_meaning, inner_answer, slice_meaning};
+use wf_types_exprs::parts::{index_meaning, inner_answer, slice_meaning};
 use wf_types_exprs::reading::place_of;
 use wf_types_meanings::values::{as_flag, as_value, conversion, number_in};
-use wf_types_rules::{Meaning, Value};
+use wf_types_rules::{Meaning, PlacedMeaning};
 
 // Adds a node whose parts are there.
 fn put(nodes: &mut Building, made: MadeNode, at: Place) -> Result<Elaborated, NoMemory>
@@ -52,7 +52,7 @@ fn put(nodes: &mut Building, made: MadeNode, at: Place) -> Result<Elaborated, No
     let node = nodes.push_expr(one)?;
     Ok(Elaborated {
         node,
-        value: Value { of, at },
+        value: PlacedMeaning { of, at },
     })
 }
 
@@ -315,17 +315,7 @@ fn elaborate_chain(
     ensures made { IfOk result (λ n. MakesExpr here.now.around.now (tree.chain op (expr_at (exprs_of here.now.nodes.now) first) (links_at (exprs_of here.now.nodes.now) links.now) at) nodes.new n) }
 {
     let operands = elaborate_operands(here, nodes, first, links)?;
-    Ok(MadeNode {
-        node: ExprNode {
-            expr: Expr::Chain {
-                op,
-                parts: operands.parts,
-            },
-            at,
-            signs: operands.signs,
-        },
-        of: chain_meaning(op, &operands.of),
-    })
+    Ok(operands.chain(op, at))
 }
 
 // The operands of a chain.
@@ -344,7 +334,7 @@ fn elaborate_operands(
     ensures entries { OnOk result (AddsEntries nodes.old nodes.new (expr_entries here.now.around.now (expr_at (exprs_of here.now.nodes.now) first) ++ link_entries here.now.around.now (links_at (exprs_of here.now.nodes.now) links.now))) }
     ensures all { IfOk result (λ all. AreOperands here.now.around.now (expr_at (exprs_of here.now.nodes.now) first) (links_at (exprs_of here.now.nodes.now) links.now) nodes.new all) }
 {
-    let begun = elaborate_operand(here, nodes, no_operand(here.alloc), first)?;
+    let begun = elaborate_operand(here, nodes, MadeOperands::new(here.alloc), first)?;
     let all = elaborate_links(here, nodes, begun, links)?;
     Ok(all)
 }
@@ -364,7 +354,7 @@ fn elaborate_operand(
     ensures adds { IfOk result (λ all. AddsOperand here.now.around.now (expr_at (exprs_of here.now.nodes.now) e) nodes.new before all) }
 {
     let next = elaborate_expr(here, nodes, e)?;
-    with_operand(before, next)
+    before.with_operand(next)
 }
 
 // The operands after the first, each with the sign before it.
@@ -402,7 +392,7 @@ fn elaborate_link(
     ensures entries { OnOk result (AddsEntries nodes.old nodes.new (expr_entries here.now.around.now (expr_at (exprs_of here.now.nodes.now) link.operand))) }
     ensures adds { IfOk result (λ all. AddsOperand here.now.around.now (expr_at (exprs_of here.now.nodes.now) link.operand) nodes.new (record before { signs = before.signs ++ link.sign ∷ [] }) all) }
 {
-    let signed = with_sign(before, link.sign)?;
+    let signed = before.with_sign(link.sign)?;
     elaborate_operand(here, nodes, signed, link.operand)
 }
 

@@ -279,12 +279,12 @@ module _ (d : Declared) (distinct : AreDistinct d.texts) (kept : (refusal : Refu
           let it = method-from (n + count_block (method_in d mark m).body) decls i t e in
           record { from = it.from; at = it.at; named = it.named; of = it.of }
 
-apart-names : (name : List ℕ) (texts : List (List ℕ)) (decls : List DeclTree) (order : List ℕ) → AreDistinct texts → ((refusal : Refusal) → Breaks (declared texts decls) refusal → ⊥)
-    → AllByRecursion (StructureHas (NameIsSpelt texts)) (structs_of decls) → AllByRecursion (MethodHas (NameIsSpelt texts)) (methods_of decls) → HasApartNames (typed_package (resolved_package name texts decls order))
+apart-names : (name : List ℕ) (texts : List (List ℕ)) (decls : List DeclTree) (order struct_order : List ℕ) → AreDistinct texts → ((refusal : Refusal) → Breaks (declared texts decls) refusal → ⊥)
+    → AllByRecursion (StructureHas (NameIsSpelt texts)) (structs_of decls) → AllByRecursion (MethodHas (NameIsSpelt texts)) (methods_of decls) → HasApartNames (typed_package (resolved_package name texts decls order struct_order))
 unfolding typed_package
-apart-names name texts decls order distinct kept ss ms =
+apart-names name texts decls order struct_order distinct kept ss ms =
     let d = declared texts decls in
-    let p = resolved_package name texts decls order in
+    let p = resolved_package name texts decls order struct_order in
     record {
       structs = subst AreDistinct (sym (structs-named d distinct kept ss ms p decls)) (structs-apart d distinct kept ss ms);
       fields = fields-kept d distinct kept ss ms p decls (fields-apart d distinct kept ss ms);
@@ -298,6 +298,6 @@ apart-names name texts decls order distinct kept ss ms =
     }
 
 pub read_names_are_apart : ReadNamesAreApart
-read_names_are_apart name files read is kept order =
+read_names_are_apart name files read is kept order struct_order =
     let spelt = names-spelt name files read is in
-    apart-names read.name read.texts (decls_of read) order (parsed_distinct name files read is) kept (spelt-structs read.texts (decls_of read) spelt) (spelt-methods read.texts (decls_of read) spelt)
+    apart-names read.name read.texts (decls_of read) order struct_order (parsed_distinct name files read is) kept (spelt-structs read.texts (decls_of read) spelt) (spelt-methods read.texts (decls_of read) spelt)

@@ -1,13 +1,12 @@
 -- The struct of each method is declared, so it has a number below how many there are.
-use Rattle.std.proofs.Common.{◌≡◌, ◌∙◌, ◌+◌, ◌<◌, ℕ, suc, Bool, true, false, List, [], ◌∷◌, length, map, Option, Some, None, slice_get, refl, sym, ap, subst, arith}
+use Rattle.std.proofs.Common.{◌≡◌, ◌∙◌, ◌+◌, ◌<◌, ℕ, suc, Bool, true, false, List, [], ◌∷◌, length, map, Option, Some, None, refl, sym, ap, subst, arith}
 use Rattle.std.specs.Prelude.{cond}
 use Rattle.std.specs.List.{AllByRecursion, position_from}
 use Rattle.std.proofs.lemmas.List.{length-map}
 use Rattle.wf_text.specs.declared.rules.Refusal.{Refusal}
-use Rattle.wf_ast.specs.ParsedParts.{Parsed, AreDistinct}
+use Rattle.wf_ast.specs.ParsedParts.{AreDistinct}
 use Rattle.wf_ast.specs.ParsedTree as parsed
 use Rattle.wf_ast.specs.ParsedTree.{DeclTree}
-use Rattle.wf_ast.specs.TypedPackage.{MethodTree}
 use Rattle.wf_ast.specs.ReadPackage.{decls_of}
 use Rattle.wf_parse.proofs.OneReadings.{parsed_distinct}
 use Rattle.wf_names_rules.specs.Declarations.{Declared, Structure, Method, declared, structs_of, methods_of, is_spelt, struct_named}
@@ -53,18 +52,18 @@ module _ (d : Declared) where
           let within : n < length d.structs = omega (arith, below) in
           subst P (sym e) within
 
-have-owners : (name : List ℕ) (texts : List (List ℕ)) (decls : List DeclTree) (order : List ℕ) → AreDistinct texts → ((refusal : Refusal) → Breaks (declared texts decls) refusal → ⊥)
-    → AllByRecursion (StructureHas (NameIsSpelt texts)) (structs_of decls) → AllByRecursion (MethodHas (NameIsSpelt texts)) (methods_of decls) → HasOwners (typed_package (resolved_package name texts decls order))
+have-owners : (name : List ℕ) (texts : List (List ℕ)) (decls : List DeclTree) (order struct_order : List ℕ) → AreDistinct texts → ((refusal : Refusal) → Breaks (declared texts decls) refusal → ⊥)
+    → AllByRecursion (StructureHas (NameIsSpelt texts)) (structs_of decls) → AllByRecursion (MethodHas (NameIsSpelt texts)) (methods_of decls) → HasOwners (typed_package (resolved_package name texts decls order struct_order))
 unfolding typed_package
-have-owners name texts decls order distinct kept ss ms =
+have-owners name texts decls order struct_order distinct kept ss ms =
     let d = declared texts decls in
-    let p = resolved_package name texts decls order in
+    let p = resolved_package name texts decls order struct_order in
     let count : length (map (typed_struct p) (resolved_structs d decls)) ≡ length (structs_of decls) = length-map (resolved_structs d decls) (typed_struct p) ∙ structs-counted d decls in
     let all = all-from (IsOwned d) (methods_of decls) (λ i m e. owned d m (owner-known d distinct kept ss ms i m e)) in
     methods-kept d distinct kept ss ms p (IsOwned d) (λ m. m.of < length (map (typed_struct p) (resolved_structs d decls)))
     (λ mark m n h. subst (λ (k : ℕ). number_or (struct_named d m.owner.text.0) < k) (sym count) h) 0 decls all
 
 pub read_methods_have_owners : ReadMethodsHaveOwners
-read_methods_have_owners name files read is kept order =
+read_methods_have_owners name files read is kept order struct_order =
     let spelt = names-spelt name files read is in
-    have-owners read.name read.texts (decls_of read) order (parsed_distinct name files read is) kept (spelt-structs read.texts (decls_of read) spelt) (spelt-methods read.texts (decls_of read) spelt)
+    have-owners read.name read.texts (decls_of read) order struct_order (parsed_distinct name files read is) kept (spelt-structs read.texts (decls_of read) spelt) (spelt-methods read.texts (decls_of read) spelt)

@@ -1,6 +1,6 @@
 -- The texts of statuses hold what may stand between quotes, and no two `?` in a row: the package's name and what stands round it
 -- bring none.
-use Rattle.std.proofs.Common.{◌≡◌, ◌∙◌, ℕ, Bool, true, false, not, ◌&&◌, ◌||◌, nat_eq, nat_le, List, [], ◌∷◌, ◌++◌, map, codes, Option, None, Some, slice_get, refl, sym, ap, subst, arith}
+use Rattle.std.proofs.Common.{◌≡◌, ◌∙◌, ℕ, Bool, true, false, not, ◌&&◌, ◌||◌, nat_eq, List, [], ◌∷◌, ◌++◌, map, Option, None, Some, slice_get, refl, ap, arith}
 use Rattle.std.proofs.lemmas.Bool.Decides.{nat_tests}
 use Rattle.std.specs.List.{AllByRecursion, list_all}
 use Rattle.wf_text.specs.Precedence.{refused}
@@ -24,7 +24,7 @@ use Rattle.wf_types_rules.proofs.TypeRows as rows
 use Rattle.wf_text.specs.declared.rules.Rule.TheVariants.{T5}
 use Rattle.wf_typed_tree.specs.ElaboratedPackage.{seen_text, typed_package}
 use Rattle.wf_typed_laws.specs.StatusTexts.{is_plain_text, ReadStatusesArePlain}
-use Rattle.wf_typed_laws.proofs.ListLemmas.{all-from, all-front, all-behind, all-of-map, all-both}
+use Rattle.wf_typed_laws.proofs.ListLemmas.{all-from, all-front, all-behind, all-of-map}
 use Rattle.wf_typed_laws.proofs.DeclNames.{DeclIsGood}
 use Rattle.wf_typed_laws.proofs.ReadNames.{IsQuoted, IsSpelt, names-spelt}
 
@@ -156,15 +156,15 @@ all-append (x ∷ xs) ys a b =
     let others = all-append xs ys both.1 b in
     rw (first, others) refl
 
-plain-statuses : (name : List ℕ) (texts : List (List ℕ)) (decls : List DeclTree) (order : List ℕ) → AllByRecursion (DeclIsGood (IsSpelt texts) (IsQuoted texts)) decls → list_all is_run name ≡ true
-    → ((refusal : Refusal) → Breaks (resolved_package name texts decls []) refusal → ⊥) → list_all is_plain_text (typed_package (resolved_package name texts decls order)).statuses ≡ true
+plain-statuses : (name : List ℕ) (texts : List (List ℕ)) (decls : List DeclTree) (order struct_order : List ℕ) → AllByRecursion (DeclIsGood (IsSpelt texts) (IsQuoted texts)) decls → list_all is_run name ≡ true
+    → ((refusal : Refusal) → Breaks (resolved_package name texts decls [] []) refusal → ⊥) → list_all is_plain_text (typed_package (resolved_package name texts decls order struct_order)).statuses ≡ true
 unfolding typed_package
-plain-statuses name texts decls order spelt n kept =
-    let p = resolved_package name texts decls [] in
+plain-statuses name texts decls order struct_order spelt n kept =
+    let p = resolved_package name texts decls [] [] in
     let bytes = words-quotable texts decls (statuses_of decls) (quoted-statuses texts decls spelt) in
     all-append base_statuses (map (λ w. seen_text name w.text) p.statuses) refl (seen-statuses p kept n p.statuses bytes (statuses-right p kept))
 
 pub read_statuses_are_plain : ReadStatusesArePlain
-read_statuses_are_plain name files read is n kept order =
+read_statuses_are_plain name files read is n kept order struct_order =
     let named : list_all is_run read.name ≡ true = ap (list_all is_run) is.named ∙ n in
-    plain-statuses read.name read.texts (decls_of read) order (names-spelt name files read is) named kept
+    plain-statuses read.name read.texts (decls_of read) order struct_order (names-spelt name files read is) named kept

@@ -90,15 +90,15 @@ module _ (d : Declared) where
         let k = standing_at d (method_scope d m) in
         (record { name = a.0.0; args = typed-variables roles.Arg k refl (variables args) a.0.1; locals = typed-variables roles.Local k refl (locals_of body) a.0.2 }, methods-plain (n + count_block (method_in d mark m).body) decls a.1)
 
-plain-names : (name : List ℕ) (texts : List (List ℕ)) (decls : List DeclTree) (order : List ℕ) → AllByRecursion (DeclIsGood (IsSpelt texts) (IsQuoted texts)) decls
-    → ((refusal : Refusal) → Breaks (declared texts decls) refusal → ⊥) → HasPlainNames (typed_package (resolved_package name texts decls order))
+plain-names : (name : List ℕ) (texts : List (List ℕ)) (decls : List DeclTree) (order struct_order : List ℕ) → AllByRecursion (DeclIsGood (IsSpelt texts) (IsQuoted texts)) decls
+    → ((refusal : Refusal) → Breaks (declared texts decls) refusal → ⊥) → HasPlainNames (typed_package (resolved_package name texts decls order struct_order))
 unfolding typed_package
-plain-names name texts decls order spelt kept =
+plain-names name texts decls order struct_order spelt kept =
     let d = declared texts decls in
-    let p = resolved_package name texts decls order in
+    let p = resolved_package name texts decls order struct_order in
     let structs = all-both (StructureHas (NameIsPlain d)) (StructureHas (NameIsSpelt texts)) (StructureHas (NameIsFree d)) (structure-plain d) d.structs (spelt-structs texts decls spelt) (free-structs d kept) in
     let methods = all-both (MethodHas (NameIsPlain d)) (MethodHas (NameIsSpelt texts)) (MethodHas (NameIsFree d)) (method-plain d) d.methods (spelt-methods texts decls spelt) (free-methods d kept) in
     record { structs = structs-plain d p decls structs; methods = methods-plain d p 0 decls methods }
 
 pub read_names_are_plain : ReadNamesArePlain
-read_names_are_plain name files read is kept order = plain-names read.name read.texts (decls_of read) order (names-spelt name files read is) kept
+read_names_are_plain name files read is kept order struct_order = plain-names read.name read.texts (decls_of read) order struct_order (names-spelt name files read is) kept

@@ -29,4 +29,4 @@ pub record HasApartNames (p : PackageTree) : Type 0 where
 abbrev pub ReadNamesAreApart : Type 0
 ReadNamesAreApart =
     (name : List ℕ) (files : List (List ℕ)) (read : Parsed) → IsParsed name files read → ((refusal : Refusal) → Breaks (declared read.texts (decls_of read)) refusal → ⊥)
-    → (order : List ℕ) → HasApartNames (typed_package (resolved_package read.name read.texts (decls_of read) order))
+    → (order struct_order : List ℕ) → HasApartNames (typed_package (resolved_package read.name read.texts (decls_of read) order struct_order))

@@ -19,4 +19,4 @@ HasOwners p = AllByRecursion (λ (m : MethodTree). m.of < length p.structs) p.me
 abbrev pub ReadMethodsHaveOwners : Type 0
 ReadMethodsHaveOwners =
     (name : List ℕ) (files : List (List ℕ)) (read : Parsed) → IsParsed name files read → ((refusal : Refusal) → Breaks (declared read.texts (decls_of read)) refusal → ⊥)
-    → (order : List ℕ) → HasOwners (typed_package (resolved_package read.name read.texts (decls_of read) order))
+    → (order struct_order : List ℕ) → HasOwners (typed_package (resolved_package read.name read.texts (decls_of read) order struct_order))

@@ -43,7 +43,7 @@ pub record HasPlainNames (p : PackageTree) : Type 0 where
 abbrev pub ReadNamesArePlain : Type 0
 ReadNamesArePlain =
     (name : List ℕ) (files : List (List ℕ)) (read : Parsed) → IsParsed name files read → ((refusal : Refusal) → Breaks (declared read.texts (decls_of read)) refusal → ⊥)
-    → (order : List ℕ) → HasPlainNames (typed_package (resolved_package read.name read.texts (decls_of read) order))
+    → (order struct_order : List ℕ) → HasPlainNames (typed_package (resolved_package read.name read.texts (decls_of read) order struct_order))
 
 -- Where they are plain, the nodes of the package have texts under the numbers of their names.
 abbrev pub NodesHaveNames : Type 0

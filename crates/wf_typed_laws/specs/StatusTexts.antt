@@ -20,5 +20,5 @@ is_plain_text text = list_all is_text_byte text && not (two_questions text)
 abbrev pub ReadStatusesArePlain : Type 0
 ReadStatusesArePlain =
     (name : List ℕ) (files : List (List ℕ)) (read : Parsed) → IsParsed name files read → list_all is_run name ≡ true
-    → ((refusal : Refusal) → Breaks (resolved_package read.name read.texts (decls_of read) []) refusal → ⊥)
-    → (order : List ℕ) → list_all is_plain_text (typed_package (resolved_package read.name read.texts (decls_of read) order)).statuses ≡ true
+    → ((refusal : Refusal) → Breaks (resolved_package read.name read.texts (decls_of read) [] []) refusal → ⊥)
+    → (order struct_order : List ℕ) → list_all is_plain_text (typed_package (resolved_package read.name read.texts (decls_of read) order struct_order)).statuses ≡ true

@@ -21,7 +21,7 @@ use Rattle.wf_named.specs.NamedTree.{NamedBoundsTree, NamedPackageTree}
 use Rattle.wf_names_rules.specs.Declarations.{Declared, Structure, as_variable, struct_named, text_of}
 use Rattle.wf_names_rules.specs.Meanings.{width_named, width_of}
 use Rattle.wf_names_rules.specs.Uses as uses
-use Rattle.wf_names_rules.specs.Uses.{Scope, Use, struct_scope, type_uses, uses_of}
+use Rattle.wf_names_rules.specs.Uses.{Use, struct_scope, type_uses, uses_of}
 use Rattle.wf_names_rules.specs.Sizes.{number_or_zero, width_bytes, flag_bytes, plain_bytes, struct_held}
 use Rattle.wf_names_rules.specs.ConstantValues.{value_of, known_constants}
 use Rattle.wf_names_resolve.specs.Standing.{Standing, standing_at}

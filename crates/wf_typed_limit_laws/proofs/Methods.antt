@@ -41,14 +41,14 @@ few-declared d kept = by (slice_get d.methods 1024) refl
         let refusal : Refusal = record { rule = L6; at = m.name.at } in
         absurd (kept refusal (by_declaration refusal (too_many_methods m e)))
 
-few-methods : (name : List ℕ) (texts : List (List ℕ)) (decls : List DeclTree) (order : List ℕ) → ((refusal : Refusal) → Breaks (declared texts decls) refusal → ⊥)
-    → HasFewMethods (typed_package (resolved_package name texts decls order))
+few-methods : (name : List ℕ) (texts : List (List ℕ)) (decls : List DeclTree) (order struct_order : List ℕ) → ((refusal : Refusal) → Breaks (declared texts decls) refusal → ⊥)
+    → HasFewMethods (typed_package (resolved_package name texts decls order struct_order))
 unfolding typed_package
-few-methods name texts decls order kept =
+few-methods name texts decls order struct_order kept =
     let d = declared texts decls in
-    let p = resolved_package name texts decls order in
+    let p = resolved_package name texts decls order struct_order in
     let count : length (typed_methods p 0 (resolved_methods d decls)) ≡ length (methods_of decls) = methods-typed p 0 (resolved_methods d decls) ∙ methods-resolved d decls in
     subst (λ (n : ℕ). n ≤ 1024) (sym count) (few-declared d kept)
 
 pub read_methods_are_few : ReadMethodsAreFew
-read_methods_are_few name files read is kept order = few-methods read.name read.texts (decls_of read) order kept
+read_methods_are_few name files read is kept order struct_order = few-methods read.name read.texts (decls_of read) order struct_order kept

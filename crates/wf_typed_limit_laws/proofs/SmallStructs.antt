@@ -24,7 +24,7 @@ use Rattle.wf_names_rules.specs.Uses.{struct_scope, type_uses}
 use Rattle.wf_names_rules.specs.ConstantValues.{known_constants}
 use Rattle.wf_names_resolve.specs.Package.{resolved_structs, resolved_package, struct_in}
 use Rattle.wf_names_laws.proofs.PackageLaws.{package-named}
-use Rattle.wf_names_verdicts.proofs.CallOrders.{kept-have-orders}
+use Rattle.wf_names_verdicts.proofs.KeptOrders.{kept-have-orders}
 use Rattle.wf_names_verdicts.proofs.Takes.{takes}
 use Rattle.wf_types_rules.specs.TypeRules as types_rules
 use Rattle.wf_types_rules.specs.FirstBreak.{deciding}
@@ -136,27 +136,27 @@ module _ (d : Declared) (p : NamedPackageTree) (agree : Agree (known_constants d
 -- ---- packages
 
 -- Where no rule of types is broken none decides, whatever the order of the methods.
-none-decides : (name : List ℕ) (texts : List (List ℕ)) (decls : List DeclTree) (order : List ℕ) → ((refusal : Refusal) → types_rules.Breaks (resolved_package name texts decls []) refusal → ⊥)
-    → deciding (resolved_package name texts decls order) ≡ None
+none-decides : (name : List ℕ) (texts : List (List ℕ)) (decls : List DeclTree) (order struct_order : List ℕ) → ((refusal : Refusal) → types_rules.Breaks (resolved_package name texts decls [] []) refusal → ⊥)
+    → deciding (resolved_package name texts decls order struct_order) ≡ None
 unfolding deciding sites
-none-decides name texts decls order kept = by_refusal (deciding (resolved_package name texts decls [])) refl
+none-decides name texts decls order struct_order kept = by_refusal (deciding (resolved_package name texts decls [] [])) refl
   where
-    by_refusal : (o : Option Refusal) → deciding (resolved_package name texts decls []) ≡ o → deciding (resolved_package name texts decls []) ≡ None
+    by_refusal : (o : Option Refusal) → deciding (resolved_package name texts decls [] []) ≡ o → deciding (resolved_package name texts decls [] []) ≡ None
     by_refusal None e = e
     by_refusal (Some refusal) e =
-        let D : Option Refusal → Type 0 = Decides (types_rules.Breaks (resolved_package name texts decls [])) in
-        absurd (kept refusal (subst D e (deciding-decides (resolved_package name texts decls []))).breaks)
+        let D : Option Refusal → Type 0 = Decides (types_rules.Breaks (resolved_package name texts decls [] [])) in
+        absurd (kept refusal (subst D e (deciding-decides (resolved_package name texts decls [] []))).breaks)
 
 module _ (name : List ℕ) (texts : List (List ℕ)) (decls : List DeclTree) (formed : list_all well_formed decls ≡ true) (kept : (refusal : Refusal) → Breaks (declared texts decls) refusal → ⊥)
-    (well : (refusal : Refusal) → types_rules.Breaks (resolved_package name texts decls []) refusal → ⊥) (order : List ℕ) where
+    (well : (refusal : Refusal) → types_rules.Breaks (resolved_package name texts decls [] []) refusal → ⊥) (order struct_order : List ℕ) where
   abbrev d : Declared
   d = declared texts decls
 
   abbrev p : NamedPackageTree
-  p = resolved_package name texts decls order
+  p = resolved_package name texts decls order struct_order
 
-  abbrev agree : Agree (known_constants (declared texts decls)) (map as_variable (declared texts decls).constants) (constants_of (resolved_package name texts decls order))
-  agree = agreed name texts decls order formed kept
+  abbrev agree : Agree (known_constants (declared texts decls)) (map as_variable (declared texts decls).constants) (constants_of (resolved_package name texts decls order struct_order))
+  agree = agreed name texts decls order struct_order formed kept
 
   struct-typed : (i : ℕ) (it : Structure) → slice_get d.structs i ≡ Some it → (t : StructTree) × ((slice_get (map (typed_struct p) (resolved_structs d decls)) i ≡ Some t) × (t.fields ≡ typed_fields d p agree it it.fields))
   struct-typed i it e =
@@ -168,9 +168,9 @@ module _ (name : List ℕ) (texts : List (List ℕ)) (decls : List DeclTree) (fo
   struct-fits bounded i it e =
       let m = struct-resolved d decls i it e in
       let t = struct-typed i it e in
-      let ordered = kept-have-orders name texts decls kept in
-      let q = resolved_package name texts decls ordered.0 in
-      let is = package-is q (none-decides name texts decls ordered.0 well) (package-named name texts decls ordered.0 kept ordered.1) in
+      let orders = kept-have-orders name texts decls kept in
+      let q = resolved_package name texts decls orders.0 orders.1 in
+      let is = package-is q (none-decides name texts decls orders.0 orders.1 well) (package-named name texts decls orders.0 orders.1 kept orders.2) in
       let known = all-at (λ s. AllByRecursion (λ v. AllByRecursion (IsKnown d (struct_scope d s)) (type_uses v.of)) s.fields) d.structs (in-fields d (IsKnown d) (use-known d kept)) i it e in
       let there = all-at (λ s. AllByRecursion (λ v. AllByRecursion (IsDeclaredStruct d) (type_uses v.of)) s.fields) d.structs (in-fields d (λ scope. IsDeclaredStruct d) (struct-known d kept)) i it e in
       let form = all-at (λ s. AllByRecursion (λ v. formed_type v.of ≡ true) s.fields) d.structs (structs-formed decls formed) i it e in
@@ -199,5 +199,5 @@ module _ (name : List ℕ) (texts : List (List ℕ)) (decls : List DeclTree) (fo
 
 pub read_structs_are_small : ReadStructsAreSmall
 unfolding typed_package
-read_structs_are_small name files read is kept well order =
-    small-structs read.name read.texts (decls_of read) (packages_are_well_formed name files read is) kept well order (read_arrays_are_bounded name files read is kept order).fields
+read_structs_are_small name files read is kept well order struct_order =
+    small-structs read.name read.texts (decls_of read) (packages_are_well_formed name files read is) kept well order struct_order (read_arrays_are_bounded name files read is kept order struct_order).fields

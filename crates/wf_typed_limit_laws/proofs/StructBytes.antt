@@ -8,7 +8,6 @@ use Rattle.wf_ast.specs.declared.types.Ty.TheVariants as types
 use Rattle.wf_ast.specs.ParsedTree as parsed
 use Rattle.wf_ast.specs.ParsedTree.{FieldTrees, DeclTree}
 use Rattle.wf_ast.specs.TypedPackage as trees
-use Rattle.wf_ast.specs.TypedPackage.{StructTree}
 use Rattle.wf_ast.specs.WellFormed.{formed_type, formed_fields, well_formed}
 use Rattle.wf_ast.proofs.BoolLemmas.{both}
 use Rattle.wf_named.specs.NamedTree.{NamedPackageTree, NamedStructTree}

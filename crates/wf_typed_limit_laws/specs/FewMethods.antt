@@ -17,4 +17,4 @@ HasFewMethods p = length p.methods ≤ 1024
 abbrev pub ReadMethodsAreFew : Type 0
 ReadMethodsAreFew =
     (name : List ℕ) (files : List (List ℕ)) (read : Parsed) → IsParsed name files read → ((refusal : Refusal) → Breaks (declared read.texts (decls_of read)) refusal → ⊥)
-    → (order : List ℕ) → HasFewMethods (typed_package (resolved_package read.name read.texts (decls_of read) order))
+    → (order struct_order : List ℕ) → HasFewMethods (typed_package (resolved_package read.name read.texts (decls_of read) order struct_order))

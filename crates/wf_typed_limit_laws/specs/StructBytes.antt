@@ -50,5 +50,5 @@ HasSmallStructs p = (s : ℕ) (it : StructTree) → slice_get p.structs s ≡ So
 abbrev pub ReadStructsAreSmall : Type 0
 ReadStructsAreSmall =
     (name : List ℕ) (files : List (List ℕ)) (read : Parsed) → IsParsed name files read → ((refusal : Refusal) → names.Breaks (declared read.texts (decls_of read)) refusal → ⊥)
-    → ((refusal : Refusal) → types_rules.Breaks (resolved_package read.name read.texts (decls_of read) []) refusal → ⊥)
-    → (order : List ℕ) → HasSmallStructs (typed_package (resolved_package read.name read.texts (decls_of read) order))
+    → ((refusal : Refusal) → types_rules.Breaks (resolved_package read.name read.texts (decls_of read) [] []) refusal → ⊥)
+    → (order struct_order : List ℕ) → HasSmallStructs (typed_package (resolved_package read.name read.texts (decls_of read) order struct_order))

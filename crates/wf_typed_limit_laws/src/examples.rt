@@ -14,14 +14,14 @@ ghost use Rattle.wf_typed_limit_laws.specs.Examples.{small_texts, small_decls, i
 
 /// A u16, a bool, a status and an array of 100 u32 have 411 bytes; a u64 and a struct of these have 427.
 pub fn a_small_package()
-    ensures structs { (typed_package (resolved_package (codes "small") small_texts small_decls [])).structs ≡ inner ∷ outer ∷ [] }
+    ensures structs { (typed_package (resolved_package (codes "small") small_texts small_decls [] [])).structs ≡ inner ∷ outer ∷ [] }
     ensures inner { HasBytes (inner ∷ outer ∷ []) inner.fields 411 }
     ensures outer { HasBytes (inner ∷ outer ∷ []) outer.fields 427 }
 {}
 
 /// Two arrays of 65,536 u64 have 1,048,576 bytes, which the rules of names allow; one byte more is refused.
 pub fn the_largest_struct()
-    ensures structs { (typed_package (resolved_package (codes "large") large_texts (large_decls no_field) [])).structs ≡ largest ∷ [] }
+    ensures structs { (typed_package (resolved_package (codes "large") large_texts (large_decls no_field) [] [])).structs ≡ largest ∷ [] }
     ensures bytes { HasBytes (largest ∷ []) largest.fields 1048576 }
     ensures passes { (refusal : Refusal) → SizeBreaks (declared large_texts (large_decls no_field)) refusal → ⊥ }
     ensures one_byte_more { SizeBreaks (declared large_texts (large_decls one_byte)) (record { rule = L7; at = at 1 68 }) }

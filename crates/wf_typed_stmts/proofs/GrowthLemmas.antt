@@ -23,7 +23,7 @@ use Rattle.wf_ast.specs.declared.typed_nodes.TypedNodes.{TypedNodes}
 use Rattle.wf_ast.specs.declared.types.Ty.{Ty}
 use Rattle.wf_ast.specs.declared.types.Ty.TheVariants as types
 use Rattle.wf_ast.specs.TypedTree.{ValueTree, Block, lost}
-use Rattle.wf_ast.specs.TypedTrees.{sort_of, chain_of, type_of_node, made_or_number, expr_trees, tree_of, no_stmt, onto, stmt_makers, stmts_after}
+use Rattle.wf_ast.specs.TypedTrees.{operator_kind, chain_of, type_of_node, made_or_number, expr_trees, tree_of, no_stmt, onto, stmt_makers, stmts_after}
 use Rattle.wf_ast.specs.TypedInvariant.{each_numbered, is_expr, has_kind, is_optional_expr, callee_exists, axiom_exists, block_below}
 use Rattle.wf_ast.proofs.Arena.{both_true}
 use Rattle.wf_named.specs.NamedParts.{NamedParts}
@@ -170,13 +170,13 @@ step_stands t of c items e h = record { there = h.there; tree_is = tree_stays c 
 
 pub operator_made : (b c : TypedNodes) (items : List StmtNode) (e left right : ExprId) (op : Op) (sign : Place) (ty : Ty) (n : ExprNode)
     → n ≡ record { expr = nodes.Chain op (left ∷ right ∷ []); at = sign; signs = sign ∷ [] } → tree_of c e ≡ made_or_number (tree_of b) n.at n.signs ty None n.expr
-    → tree_of (with_stmts c items) e ≡ chain_of sign (sign ∷ []) ty (sort_of op) (tree_of (with_stmts b items) left ∷ tree_of (with_stmts b items) right ∷ [])
+    → tree_of (with_stmts c items) e ≡ chain_of sign (sign ∷ []) ty (operator_kind op) (tree_of (with_stmts b items) left ∷ tree_of (with_stmts b items) right ∷ [])
 operator_made b c items e left right op sign ty n is made =
     let N : ExprNode → Type 0 = λ x. tree_of c e ≡ made_or_number (tree_of b) x.at x.signs ty None x.expr in
-    let plain : tree_of c e ≡ chain_of sign (sign ∷ []) ty (sort_of op) (tree_of b left ∷ tree_of b right ∷ []) = subst N is made in
+    let plain : tree_of c e ≡ chain_of sign (sign ∷ []) ty (operator_kind op) (tree_of b left ∷ tree_of b right ∷ []) = subst N is made in
     tree_stays c items e ∙ plain
-    ∙ ap (λ t. chain_of sign (sign ∷ []) ty (sort_of op) (t ∷ tree_of b right ∷ [])) (sym (tree_stays b items left))
-    ∙ ap (λ t. chain_of sign (sign ∷ []) ty (sort_of op) (tree_of (with_stmts b items) left ∷ t ∷ [])) (sym (tree_stays b items right))
+    ∙ ap (λ t. chain_of sign (sign ∷ []) ty (operator_kind op) (t ∷ tree_of b right ∷ [])) (sym (tree_stays b items left))
+    ∙ ap (λ t. chain_of sign (sign ∷ []) ty (operator_kind op) (tree_of (with_stmts b items) left ∷ t ∷ [])) (sym (tree_stays b items right))
 
 pub exprs_more_still : (p q r : TypedNodes) → GrowsExprs p q → GrowsExprs q r → GrowsExprs p r
 exprs_more_still p q r g h = record { exprs = grows_more p q r g.exprs h.exprs; makers = h.makers ∙ g.makers }

@@ -13,7 +13,7 @@ use Rattle.wf_ast.specs.declared.operators.Op.{Op}
 use Rattle.wf_ast.specs.declared.types.Ty.{Ty}
 use Rattle.wf_ast.specs.declared.types.Ty.TheVariants as types
 use Rattle.wf_ast.specs.TypedTree.{Arith}
-use Rattle.wf_ast.specs.TypedTrees.{Sort, arithmetic, sort_of}
+use Rattle.wf_ast.specs.TypedTrees.{OperatorKind, arithmetic, operator_kind}
 use Rattle.wf_ast.specs.TypedInvariant.{is_numeric}
 use Rattle.wf_ast.specs.WellTyped.{is_pure, is_shift}
 use Rattle.wf_ast.specs.OperatorForms.{updates, is_arithmetic}
@@ -21,7 +21,7 @@ use Rattle.wf_named.specs.declared.nodes.NamedCallee.{NamedCallee}
 use Rattle.wf_named.specs.declared.nodes.NamedCallee.TheVariants as callees
 use Rattle.wf_named.specs.declared.nodes.NamedPath.{NamedPath}
 use Rattle.wf_named.specs.NamedTree.{NamedExprTree, status, path, index, answer, NamedPartTree, absent, present, NamedArgTrees, no_arg, more_args, NamedCallTree, call, NamedTargetTree, to_path, to_element, NamedClauseTrees, no_clause, more_clauses, LetterTrees, no_letter, more_letters, NamedViaTree, by_itself, via, NamedStmtTree, assign, keep, do_call, branch, loop, leave, again, back, suspend, claim, NamedBlockTree, close, more_stmts, NamedArmTrees, no_else, otherwise, arm, NamedMethodTree, NamedPackageTree}
-use Rattle.wf_named.specs.WellNamed.{has_kind, is_wanted, args_wanted, count_args, named_expr, named_part, named_args, named_call, named_target, named_clauses, named_letters, named_via, named_stmt, named_block, named_arms, well_named, Scope, scope_of_method}
+use Rattle.wf_named.specs.WellNamed.{has_kind, is_wanted, args_wanted, count_args, named_expr, named_part, named_args, named_call, named_target, named_clauses, named_letters, named_via, named_stmt, named_block, named_arms, well_named, NamedScope, scope_of_method}
 use Rattle.wf_named.specs.Grammar.{by_grammar, end_by_grammar, args_by_grammar, call_by_grammar, target_by_grammar, clauses_by_grammar, letters_by_grammar, via_by_grammar, has_condition, stmt_by_grammar, block_by_grammar, arms_by_grammar, package_by_grammar}
 use Rattle.wf_types_rules.specs.declared.meanings.Meaning.{Meaning}
 use Rattle.wf_types_rules.specs.declared.meanings.Meaning.TheVariants as meanings
@@ -67,7 +67,7 @@ kind-whole kind (meanings.Typed (types.Part part)) h = absurd (cc h)
 kind-whole kind of h = refl
 
 -- The operands of an operator with `=`.
-number-sort : (sort : Sort) → is_arithmetic sort ≡ true → (op : Arith) × (sort ≡ arithmetic op)
+number-sort : (sort : OperatorKind) → is_arithmetic sort ≡ true → (op : Arith) × (sort ≡ arithmetic op)
 number-sort (arithmetic op) h = (op, refl)
 number-sort sort h = absurd (cc h)
 
@@ -103,7 +103,7 @@ module _ (p : NamedPackageTree) (m : NamedMethodTree) (is : MethodIs p m) (whole
   abbrev around : Setting
   around = in_method p m
 
-  abbrev names : Scope
+  abbrev names : NamedScope
   names = scope_of_method p m
 
   abbrev known : Known
@@ -201,20 +201,20 @@ module _ (p : NamedPackageTree) (m : NamedMethodTree) (is : MethodIs p m) (whole
   value-right (answer c) h g k = answer-right c h g k
   value-right e h g k = expr-right e h g k
 
-  update-right : (t : NamedTargetTree) (op : Op) (e : NamedExprTree) → AllFine p around (assigned t (Some op) e ∷ (target_parts t ++ expr_parts e)) → is_arithmetic (sort_of op) ≡ true
+  update-right : (t : NamedTargetTree) (op : Op) (e : NamedExprTree) → AllFine p around (assigned t (Some op) e ∷ (target_parts t ++ expr_parts e)) → is_arithmetic (operator_kind op) ≡ true
       → target_by_grammar t ≡ true → by_grammar e ≡ true → named_target names t ≡ true → named_expr names e ≡ true → IsRightUpdate around known t op e
   update-right t op e h number gt ge kt ke =
       let parts = fine-split p around (target_parts t) (expr_parts e) h.1 in
       let to = target-is p 0 m is whole t parts.0 gt kt in
       let it = expr-right e parts.1 ge ke in
-      let sort = number-sort (sort_of op) number in
+      let sort = number-sort (operator_kind op) number in
       let o : Operand = operand_at (target_place t) (meanings.Typed to.ty) in
       let q : Operand = operand_at (place_of e) it.of in
       let all : updated around t e ≡ Some (o ∷ q ∷ []) =
       front-known _ _ o (q ∷ []) (map-known (operand_at (target_place t)) (target_meaning around t) (meanings.Typed to.ty) to.means)
       (front-known _ (Some []) q [] (map-known (operand_at (place_of e)) (meaning around e) it.of it.means) refl) in
-      let T : Option (List Operand) → Type 0 = λ x. option_and_then (not_taken (sort_of op)) x ≡ None in
-      let S : Sort → Type 0 = λ s. not_taken s (o ∷ q ∷ []) ≡ None in
+      let T : Option (List Operand) → Type 0 = λ x. option_and_then (not_taken (operator_kind op)) x ≡ None in
+      let S : OperatorKind → Type 0 = λ s. not_taken s (o ∷ q ∷ []) ≡ None in
       let numbers = both-numbers sort.0 o q (subst S sort.1 (subst T all (h.0 T1 wrong_update rows.wrong_update))) in
       let target = number-told (target_meaning around t) (meanings.Typed to.ty) to.means numbers.0 in
       record { gives = number; target = target; result = unrefined-number (type_meant (target_meaning around t)) target; value = number-told (meaning around e) it.of it.means numbers.1; right = it }

@@ -15,7 +15,6 @@ use Rattle.wf_ast.specs.declared.typed_code.Callee.TheVariants as callees
 use Rattle.wf_ast.specs.declared.typed_code.Stmt.TheVariants as stmts
 use Rattle.wf_ast.specs.declared.typed_nodes.TypedNodes.{TypedNodes}
 use Rattle.wf_ast.specs.TypedTree.{ValueTree, Target, break_from, continue_in, invoke, own, sub, plain}
-use Rattle.wf_ast.specs.TypedTree as typed
 use Rattle.wf_ast.specs.TypedTrees.{tree_of, type_of_node, target_of, optional_target, base_call, call_made}
 use Rattle.wf_ast.specs.TypedInvariant.{is_expr, is_optional_expr, callee_exists, has_kind}
 use Rattle.wf_ast.proofs.Arena.{both_true}

@@ -3,7 +3,7 @@ use Rattle.std.specs.Prelude.{◌≡◌, ℕ, ◌+◌, suc, ⊤, Bool, true, fal
 use Rattle.wf_base.specs.declared.marks.Mark.{Mark}
 use Rattle.wf_base.specs.BaseTable.{row_of}
 use Rattle.wf_ast.specs.declared.operators.Op.{Op}
-use Rattle.wf_ast.specs.TypedTrees.{sort_of}
+use Rattle.wf_ast.specs.TypedTrees.{operator_kind}
 use Rattle.wf_ast.specs.TypedInvariant.{is_numeric, has_kind}
 use Rattle.wf_ast.specs.WellTyped.{is_pure}
 use Rattle.wf_ast.specs.OperatorForms.{is_arithmetic}
@@ -68,7 +68,7 @@ IsRightTarget s k (to_element p i at) = IsRight s k.statuses (index p i at)
 
 -- An operator with `=` stands between two numbers and gives one.
 pub record IsRightUpdate (s : Setting) (k : Known) (t : NamedTargetTree) (op : Op) (e : NamedExprTree) : Type 0 where
-  pub gives : is_arithmetic (sort_of op) ≡ true
+  pub gives : is_arithmetic (operator_kind op) ≡ true
   pub target : is_numeric (type_meant (target_meaning s t)) ≡ true
   pub result : is_numeric (type_of_update s t) ≡ true
   pub value : is_numeric (type_of s e) ≡ true

@@ -3,7 +3,7 @@
 
 ghost use Rattle.std.specs.Prelude.{◌≡◌, ◌<◌, ◌+◌, ◌++◌, [], ◌∷◌, true, length, IfOk, OnOk, None};
 ghost use Rattle.wf_ast.specs.declared.typed_code.Expr.TheVariants as exprs;
-ghost use Rattle.wf_ast.specs.TypedTrees.{sort_of, chain_of, tree_of, stmt_made, stmt_makers, onto};
+ghost use Rattle.wf_ast.specs.TypedTrees.{operator_kind, chain_of, tree_of, stmt_made, stmt_makers, onto};
 ghost use Rattle.wf_ast.specs.TypedInvariant.{chain_fits};
 ghost use Rattle.wf_named.specs.NamedParts.{exprs_of, named_package};
 ghost use Rattle.wf_named.specs.NamedTrees.{expr_at};
@@ -151,12 +151,12 @@ impl BodyBuilding {
         requires begun { IsBegun here.now.nodes.now self.old }
         requires left { left.0 < length self.old.exprs }
         requires right { right.0 < length self.old.exprs }
-        requires fits { chain_fits self.old (sort_of by.op) (left ∷ right ∷ []) by.ty ≡ true }
+        requires fits { chain_fits self.old (operator_kind by.op) (left ∷ right ∷ []) by.ty ≡ true }
         ensures grows { OnOk result (GrowsExprs self.old self.new) }
         ensures entries { OnOk result (AddsEntries self.old self.new (record { at = by.sign; ty = by.ty; constant = None } ∷ [])) }
         ensures begun { OnOk result (IsBegun here.now.nodes.now self.new) }
         ensures there { IfOk result (λ e. e.0 < length self.new.exprs) }
-        ensures made { IfOk result (λ e. tree_of self.new e ≡ chain_of by.sign (by.sign ∷ []) by.ty (sort_of by.op) (tree_of self.old left ∷ tree_of self.old right ∷ [])) }
+        ensures made { IfOk result (λ e. tree_of self.new e ≡ chain_of by.sign (by.sign ∷ []) by.ty (operator_kind by.op) (tree_of self.old left ∷ tree_of self.old right ∷ [])) }
     {
         let node = operator_node(here.alloc, by, left, right)?;
         let chain = TypedExpr {

@@ -1,6 +1,6 @@
 // Conditions: the promises of a loop, and what is given for the letters of an axiom.
 
-ghost use Rattle.std.specs.Prelude.{◌≡◌, ◌<◌, length, IfOk, OnOk, ◌++◌};
+ghost use Rattle.std.specs.Prelude.{◌<◌, length, IfOk, OnOk, ◌++◌};
 ghost use Rattle.std.specs.List.{AllByRecursion};
 ghost use Rattle.wf_ast.specs.ParsedParts.{BlockBelow};
 ghost use Rattle.wf_named.specs.NamedParts.{exprs_of, stmts_of, named_package, LettersBelow, AxiomBelow};

@@ -12,13 +12,13 @@ use Rattle.wf_base.specs.BaseTable.{bits_of}
 use Rattle.wf_ast.specs.declared.types.Ty.{Ty}
 use Rattle.wf_ast.specs.declared.types.Ty.TheVariants as types
 use Rattle.wf_ast.specs.BaseStatuses.{base_statuses}
-use Rattle.wf_ast.specs.TypedPackage.{StructTree, MethodTree, PackageTree}
+use Rattle.wf_ast.specs.TypedPackage.{StructTree}
 use Rattle.wf_ast.specs.TypedPackage as trees
 use Rattle.wf_ast.specs.WellTyped.{type_at, variable_at, field_at}
 use Rattle.wf_named.specs.declared.nodes.Variable.{Variable}
 use Rattle.wf_named.specs.declared.nodes.Variable.TheVariants as variables
 use Rattle.wf_named.specs.NamedTree.{NamedTypeTree, VarTree, ConstTree, NamedStructTree, NamedMethodTree, NamedPackageTree}
-use Rattle.wf_named.specs.WellNamed.{Scope, fields_in, type_of_variable, kind_of, has_kind, named_type, named_consts, named_structs, named_method, named_result, named_block, scope_of_const, scope_of_struct, scope_of_method, all_whole, calls_in_front, has_few_variables, well_named}
+use Rattle.wf_named.specs.WellNamed.{NamedScope, fields_in, type_of_variable, kind_of, has_kind, named_type, named_consts, named_structs, named_method, named_result, named_block, scope_of_const, scope_of_struct, scope_of_method, all_whole, calls_in_front, has_struct_order, has_few_variables, well_named}
 use Rattle.wf_types_rules.specs.declared.meanings.Constant.{Constant}
 use Rattle.wf_types_rules.specs.declared.meanings.Meaning.{Meaning}
 use Rattle.wf_types_rules.specs.declared.meanings.Meaning.TheVariants as meanings
@@ -49,6 +49,7 @@ pub record PackageIs (p : NamedPackageTree) : Type 0 where
   pub whole : all_whole p 0 p.structs ≡ true
   pub ordered : nat_eq (length p.order) (length p.methods) ≡ true
   pub in_front : calls_in_front p [] p.order ≡ true
+  pub held_in_front : has_struct_order p ≡ true
   pub few : list_all has_few_variables p.methods ≡ true
 
 struct-fine : (p : NamedPackageTree) (s : Setting) (ss : List NamedStructTree) → AllFine p s (flat_map (λ x. variables_parts roles.Field x.fields) ss) → (i : ℕ) (it : NamedStructTree)
@@ -86,6 +87,7 @@ package-is p none named =
     let whole = both (all_whole p 0 p.structs) _ methods_named.1 in
     let order = both (nat_eq (length p.order) (length p.methods)) _ whole.1 in
     let front = both (calls_in_front p [] p.order) _ order.1 in
+    let held = both (has_struct_order p) _ front.1 in
     record {
       constants = constants-are p [] p.consts tt consts.0 names.0;
       fields = λ i it e. struct-fine p (for_types p) p.structs (parts-fine p (for_types p) (flat_map (λ x. variables_parts roles.Field x.fields) p.structs) structs.0) i it e;
@@ -95,7 +97,8 @@ package-is p none named =
       whole = whole.0;
       ordered = order.0;
       in_front = front.0;
-      few = front.1;
+      held_in_front = held.0;
+      few = held.1;
     }
 
 -- Variables with declared types.
@@ -110,14 +113,14 @@ types-known p are =
     let count : length (constants_of p) ≡ length p.consts = are.count ∙ plain in
     subst N count (constants-known p (constants_of p) are.made)
 
-pub declared-known : (p : NamedPackageTree) → ConstantsAre [] p.consts → (names : Scope) → only_constants names ≡ scope_of_const p (length p.consts) → (role : Role) → (role ≡ roles.Conversion → ⊥)
+pub declared-known : (p : NamedPackageTree) → ConstantsAre [] p.consts → (names : NamedScope) → only_constants names ≡ scope_of_const p (length p.consts) → (role : Role) → (role ≡ roles.Conversion → ⊥)
     → (t : NamedTypeTree) → AllFine p (for_types p) (declared_parts role t) → named_type names t ≡ true → HasValue (declared (for_types p) role t)
 declared-known p are names same role other t h n =
-    let T : Scope → Type 0 = λ scope. named_type scope t ≡ true in
+    let T : NamedScope → Type 0 = λ scope. named_type scope t ≡ true in
     let renamed = subst T same (type-renamed p names (for_types p) t h.1 n) in
     placed-known p (for_types p) role t other h.0 h.1 (type-known p (scope_of_const p (length p.consts)) (for_types p) (types-known p are) t h.1 renamed)
 
-pub all-declared : (p : NamedPackageTree) → ConstantsAre [] p.consts → (names : Scope) → only_constants names ≡ scope_of_const p (length p.consts) → (role : Role) → (role ≡ roles.Conversion → ⊥)
+pub all-declared : (p : NamedPackageTree) → ConstantsAre [] p.consts → (names : NamedScope) → only_constants names ≡ scope_of_const p (length p.consts) → (role : Role) → (role ≡ roles.Conversion → ⊥)
     → (xs : List VarTree) → AllFine p (for_types p) (variables_parts role xs) → list_all (λ x. named_type names x.of) xs ≡ true → AllDeclared p role xs
 all-declared p are names same role other [] h n = tt
 all-declared p are names same role other (x ∷ xs) h n =

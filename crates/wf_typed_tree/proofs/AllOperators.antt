@@ -9,7 +9,7 @@ use Rattle.wf_ast.specs.declared.operators.Op.{Op}
 use Rattle.wf_ast.specs.declared.operators.Op.TheVariants as ops
 use Rattle.wf_ast.specs.declared.types.Ty.TheVariants as types
 use Rattle.wf_ast.specs.TypedTree.{Arith, plus, minus, times, divided, remainder, shift_left, shift_right, bits_and, bits_or, bits_xor, mod_plus, mod_minus, mod_times, mod_shift_left, sat_plus, sat_minus, Order, less, at_most, equal, differs, at_least, greater, NumTree, number, read, element, link, convert, length_of, asked, compare, same_status, ValueTree, numeric, logical}
-use Rattle.wf_ast.specs.TypedTrees.{arithmetic, ordering, sort_of, num_in, status_in, num_chain, chain_of, comparison, first_sign}
+use Rattle.wf_ast.specs.TypedTrees.{arithmetic, ordering, operator_kind, num_in, status_in, num_chain, chain_of, comparison, first_sign}
 use Rattle.wf_ast.specs.WellTyped.{Context, fits, is_shift, is_constant, is_whole_number, well_part, well_num, well_status, width_of, fit_together}
 use Rattle.wf_ast.specs.OperatorForms.{repeats}
 use Rattle.wf_types_rules.specs.declared.meanings.Meaning.{Meaning}
@@ -227,8 +227,8 @@ is_row op (q ∷ []) = true
 is_row op (q ∷ r ∷ os) = repeats op
 
 pub operator-means : (c : Context) (at : Place) (signs : List Place) (op : Op) (o : Operand) (os : List Operand) (t : ValueTree) (ts : List ValueTree) (m : Meaning)
-    → is_row op os ≡ true → meaning_of_operator (sort_of op) (o ∷ os) ≡ Some m → Matched c (o ∷ os) (t ∷ ts)
-    → HasMeaning c m (number_or at (constant_number m) (chain_of at signs (type_meant (Some m)) (sort_of op) (t ∷ ts)))
+    → is_row op os ≡ true → meaning_of_operator (operator_kind op) (o ∷ os) ≡ Some m → Matched c (o ∷ os) (t ∷ ts)
+    → HasMeaning c m (number_or at (constant_number m) (chain_of at signs (type_meant (Some m)) (operator_kind op) (t ∷ ts)))
 operator-means c at signs op o [] t ts m row h k = absurd (cc row)
 operator-means c at signs op o (q ∷ os) t [] m row h k = absurd k.1
 operator-means c at signs ops.Add o (q ∷ os) t (u ∷ ts) m row h k = arithmetic-means c at signs plus o q os t u ts m refl h k

@@ -10,7 +10,7 @@ use Rattle.wf_base.specs.declared.base_methods.BaseSig.{BaseSig}
 use Rattle.wf_base.specs.BaseTable.{row_of}
 use Rattle.wf_ast.specs.declared.types.Ty.{Ty}
 use Rattle.wf_ast.specs.declared.types.Ty.TheVariants as types
-use Rattle.wf_ast.specs.TypedTree.{Target, to_number, to_element, to_flag, to_status, to_slice, to_nothing, Called, own, sub, assign, ValueTree}
+use Rattle.wf_ast.specs.TypedTree.{Target, Called, own, sub, assign, ValueTree}
 use Rattle.wf_ast.specs.TypedTrees.{answer_of}
 use Rattle.wf_ast.specs.WellTyped.{is_pure, is_coroutine, takes_answer, number_of, well_simple}
 use Rattle.wf_ast.specs.TypedTree as typed
@@ -27,7 +27,7 @@ use Rattle.wf_types_rules.specs.ExprTypes.{given_by_base, pure_answer}
 use Rattle.wf_types_rules.specs.declared.settings.Role.TheVariants as roles
 use Rattle.wf_types_rules.specs.DeclaredTypes.{declared, for_types, method_type}
 use Rattle.wf_types_rules.specs.Parts.{target_parts, whole_call_parts, assigned}
-use Rattle.wf_types_rules.specs.Judgements.{fails, both_fail, base_arg, wanted, result_of, is_given_nothing, gives_no_value, are_arguments, answer_type, whole_answer, target_meaning, type_in, target_type, target_place, wrong_assigned, no_value_assigned, not_kept_in_status, is_coroutine_called, keeps_no_coroutine}
+use Rattle.wf_types_rules.specs.Judgements.{both_fail, base_arg, wanted, result_of, is_given_nothing, gives_no_value, are_arguments, answer_type, whole_answer, target_meaning, type_in, target_type, target_place, wrong_assigned, no_value_assigned}
 use Rattle.wf_types_rules.specs.Judgements as judged
 use Rattle.wf_types_rules.proofs.TypeRows as rows
 use Rattle.wf_typed_tree.specs.ElaboratedExprs.{variable_tree, path_tree, arg_trees}

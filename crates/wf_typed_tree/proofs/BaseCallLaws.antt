@@ -21,7 +21,7 @@ use Rattle.wf_ast.specs.TypedTree.{arg, ValueTree, numeric, elements, Target}
 use Rattle.wf_ast.specs.TypedTrees.{num_in, slice_in, io_in, base_call}
 use Rattle.wf_ast.specs.WellTyped.{Context, type_at, is_reader, is_writer, is_pure, is_coroutine, has_none, takes_bits, may_go_into, well_num, well_slice, slice_of, element_type, fits_type, well_simple}
 use Rattle.wf_named.specs.declared.nodes.Variable.{Variable}
-use Rattle.wf_named.specs.WellNamed.{Scope, has_kind}
+use Rattle.wf_named.specs.WellNamed.{NamedScope, has_kind}
 use Rattle.wf_types_rules.specs.declared.meanings.Meaning.{Meaning}
 use Rattle.wf_types_rules.specs.declared.meanings.Meaning.TheVariants as meanings
 use Rattle.wf_types_rules.specs.declared.settings.Setting.{Setting}
@@ -39,7 +39,7 @@ OnKind c kinds.Writer on = is_writer (type_at c (arg (io_in on))) ≡ true
 OnKind c (kinds.Slice width) on = (well_slice c (slice_in on) ≡ true) × ((element_type (slice_in on)).bits ≡ bits_of width)
 OnKind c kind on = ⊤
 
-pub on-kind : (names : Scope) (s : Setting) (c : Context) → Agree names s c → (at : Place) (x : Variable) (kind : Kind) (of : Meaning) → variable s x ≡ Some of
+pub on-kind : (names : NamedScope) (s : Setting) (c : Context) → Agree names s c → (at : Place) (x : Variable) (kind : Kind) (of : Meaning) → variable s x ≡ Some of
     → has_kind kind (kind_meant of) ≡ true → OnKind c kind (variable_tree at x (Some of))
 on-kind names s c agree at x kinds.Reader of h k =
     let e = reader-meant of k in

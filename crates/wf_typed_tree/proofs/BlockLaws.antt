@@ -1,5 +1,5 @@
 -- The bodies of methods keep the rules, and with them the whole typed package.
-use Rattle.std.proofs.Common.{◌≡◌, ℕ, zero, suc, ◌+◌, ◌≤◌, Bool, true, false, ◌&&◌, List, [], ◌∷◌, ◌++◌, length, Some, None, refl, sym, ap, ◌∙◌, subst, arith, nat_lt}
+use Rattle.std.proofs.Common.{◌≡◌, ℕ, zero, suc, ◌+◌, ◌≤◌, Bool, true, false, ◌&&◌, List, [], ◌∷◌, ◌++◌, length, Some, None, refl, sym, ap, ◌∙◌, subst, arith, nat_lt, nat_eq}
 use Rattle.std.specs.Prelude.{slice_get}
 use Rattle.std.specs.List.{list_all}
 use Rattle.std.proofs.lemmas.Bool.Decides.{nat_tests}
@@ -8,7 +8,7 @@ use Rattle.wf_ast.specs.TypedTree.{Simple, Site, Block, end, plain}
 use Rattle.wf_ast.specs.TypedTrees.{cond_in}
 use Rattle.wf_ast.specs.TypedPackage.{MethodTree}
 use Rattle.wf_ast.specs.Value.{same_truth}
-use Rattle.wf_ast.specs.WellTyped.{well_cond, well_simple, well_block, breaks, may_be_arg, may_be_local, may_be_result, answers_always, well_method, all_structs_whole, well_typed}
+use Rattle.wf_ast.specs.WellTyped.{well_cond, well_simple, well_block, breaks, may_be_arg, may_be_local, may_be_result, answers_always, well_method, calls_in_front, all_structs_whole, has_struct_order, well_typed}
 use Rattle.wf_ast.specs.OperatorForms.{updates}
 use Rattle.wf_named.specs.NamedTree.{NamedClauseTrees, no_clause, more_clauses, NamedStmtTree, assign, keep, do_call, branch, loop, leave, again, back, suspend, claim, NamedBlockTree, close, more_stmts, NamedArmTrees, no_else, otherwise, arm, NamedMethodTree, NamedPackageTree}
 use Rattle.wf_named.specs.WellNamed.{named_expr, named_target, named_call, named_via, named_clauses, named_stmt, named_block, named_arms, well_named}
@@ -23,7 +23,7 @@ use Rattle.wf_typed_tree.proofs.NumberLemmas.{both, and-true}
 use Rattle.wf_typed_tree.proofs.NoBreaks.{AllFine, fine-split}
 use Rattle.wf_typed_tree.proofs.Agreement.{PackageIs, MethodIs, package-is, method-is, typed-structs}
 use Rattle.wf_typed_tree.proofs.CallLaws.{typed-order}
-use Rattle.wf_typed_tree.proofs.DeclarationLaws.{head-is, typed-structs-whole}
+use Rattle.wf_typed_tree.proofs.DeclarationLaws.{head-is, typed-structs-whole, typed-struct-order}
 use Rattle.wf_typed_tree.proofs.EndLaws.{method-answers}
 use Rattle.wf_typed_tree.proofs.LoopLaws.{Above, left-told}
 use Rattle.wf_typed_tree.proofs.BodyLaws.{around, names, context, condition-keeps}
@@ -170,7 +170,10 @@ pub package-keeps : (p : NamedPackageTree) → deciding p ≡ None → well_name
 unfolding well_typed
 package-keeps p none named g =
     let whole = package-is p none named in
+    let order = both (nat_eq (length (typed_package p).order) (length (typed_package p).methods)) (calls_in_front (typed_package p) [] (typed_package p).order) (typed-order p whole) in
     let M : List MethodTree → Type 0 = λ ms. list_all (well_method (typed_package p)) ms ≡ true in
     and-true (all_structs_whole (typed_package p) 0 (typed_package p).structs) _ (typed-structs-whole p whole)
     (and-true (list_all (well_method (typed_package p)) (typed_package p).methods) _
-    (subst M (sym (typed-methods p)) (methods-keep p whole 0 p.methods (λ i m e. method-is p whole i m e) g)) (typed-order p whole))
+    (subst M (sym (typed-methods p)) (methods-keep p whole 0 p.methods (λ i m e. method-is p whole i m e) g))
+    (and-true (nat_eq (length (typed_package p).order) (length (typed_package p).methods)) _ order.0
+    (and-true (calls_in_front (typed_package p) [] (typed_package p).order) (has_struct_order (typed_package p)) order.1 (typed-struct-order p whole))))

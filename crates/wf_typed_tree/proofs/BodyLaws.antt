@@ -14,7 +14,7 @@ use Rattle.wf_named.specs.declared.nodes.NamedPath.{NamedPath}
 use Rattle.wf_named.specs.declared.nodes.Variable.{Variable}
 use Rattle.wf_named.specs.declared.nodes.Variable.TheVariants as variables
 use Rattle.wf_named.specs.NamedTree.{NamedExprTree, index, NamedTargetTree, to_path, to_element, NamedMethodTree, NamedPackageTree}
-use Rattle.wf_named.specs.WellNamed.{Scope, type_of_variable, named_expr, named_target, fields_in, scope_of_method}
+use Rattle.wf_named.specs.WellNamed.{NamedScope, type_of_variable, named_expr, named_target, fields_in, scope_of_method}
 use Rattle.wf_named.specs.Grammar.{by_grammar}
 use Rattle.wf_types_rules.specs.declared.meanings.Meaning.{Meaning}
 use Rattle.wf_types_rules.specs.declared.meanings.Meaning.TheVariants as meanings
@@ -55,7 +55,7 @@ module _ (p : NamedPackageTree) (n : ℕ) (m : NamedMethodTree) (is : MethodIs p
   abbrev pub around : Setting
   around = in_method p m
 
-  abbrev pub names : Scope
+  abbrev pub names : NamedScope
   names = scope_of_method p m
 
   abbrev pub context : Context

@@ -5,7 +5,7 @@ use Rattle.wf_text.specs.declared.place.Place.{Place}
 use Rattle.wf_base.specs.declared.base_methods.BaseSig.{BaseSig}
 use Rattle.wf_base.specs.declared.base_methods.BaseSig.TheVariants as sigs
 use Rattle.wf_base.specs.BaseTable.{row_of}
-use Rattle.wf_ast.specs.TypedTree.{ValueTree, Target, Simple, invoke, own, sub, Site, Block, end, plain}
+use Rattle.wf_ast.specs.TypedTree.{ValueTree, Target, Simple, invoke, Site, Block, end, plain}
 use Rattle.wf_ast.specs.TypedTree as typed
 use Rattle.wf_ast.specs.TypedTrees.{answer_of, base_call}
 use Rattle.wf_ast.specs.TypedPackage.{MethodTree, PackageTree}
@@ -13,7 +13,7 @@ use Rattle.wf_ast.specs.WellTyped.{is_pure, number_of, calls_only, calls_known, 
 use Rattle.wf_ast.specs.WellTyped as well
 use Rattle.wf_named.specs.declared.nodes.NamedCallee.TheVariants as callees
 use Rattle.wf_named.specs.NamedTree.{NamedExprTree, answer, NamedCallTree, call, NamedTargetTree, NamedStmtTree, assign, keep, do_call, branch, loop, leave, again, back, suspend, claim, NamedBlockTree, close, more_stmts, NamedArmTrees, no_else, otherwise, arm, NamedMethodTree, NamedPackageTree}
-use Rattle.wf_named.specs.WellNamed.{known_callee, expr_calls_only, args_calls_only, call_calls_only, target_calls_only, clauses_call_only, stmt_calls_only, block_calls_only, arms_call_only, method_calls_only}
+use Rattle.wf_named.specs.WellNamed.{expr_calls_only, args_calls_only, call_calls_only, target_calls_only, clauses_call_only, stmt_calls_only, block_calls_only, arms_call_only, method_calls_only}
 use Rattle.wf_named.specs.WellNamed as names
 use Rattle.wf_types_rules.specs.declared.settings.Setting.{Setting}
 use Rattle.wf_types_rules.specs.DeclaredTypes.{in_method}

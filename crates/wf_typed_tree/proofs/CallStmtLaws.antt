@@ -14,15 +14,15 @@ use Rattle.wf_base.specs.BaseTable.{bits_of, row_of}
 use Rattle.wf_base.specs.Effects.{allows}
 use Rattle.wf_ast.specs.declared.types.Ty.{Ty}
 use Rattle.wf_ast.specs.declared.types.Ty.TheVariants as types
-use Rattle.wf_ast.specs.TypedTree.{Target, to_number, to_element, to_flag, to_status, to_slice, to_nothing, Called, own, sub, assign, ValueTree}
+use Rattle.wf_ast.specs.TypedTree.{Target, to_number, to_element, to_slice, to_nothing, Called, own, sub}
 use Rattle.wf_ast.specs.TypedTrees.{base_call}
-use Rattle.wf_ast.specs.WellTyped.{Context, is_pure, is_coroutine, same_mark, may_write, well_num, is_slice, type_at, takes_bits, has_none, is_status_target, takes_answer, number_of, well_simple}
+use Rattle.wf_ast.specs.WellTyped.{Context, is_pure, is_coroutine, same_mark, may_write, well_num, is_slice, type_at, takes_bits, is_status_target, takes_answer, well_simple}
 use Rattle.wf_ast.specs.TypedTree as typed
 use Rattle.wf_ast.specs.WellTyped as well
 use Rattle.wf_named.specs.declared.nodes.NamedCallee.{NamedCallee}
 use Rattle.wf_named.specs.declared.nodes.NamedCallee.TheVariants as callees
 use Rattle.wf_named.specs.declared.nodes.NamedPath.{NamedPath}
-use Rattle.wf_named.specs.NamedTree.{NamedTypeTree, answer, NamedArgTrees, NamedCallTree, call, NamedTargetTree, to_path, VarTree, NamedMethodTree, NamedPackageTree}
+use Rattle.wf_named.specs.NamedTree.{answer, NamedArgTrees, NamedCallTree, call, NamedTargetTree, to_path, NamedMethodTree, NamedPackageTree}
 use Rattle.wf_named.specs.NamedTree as named
 use Rattle.wf_named.specs.WellNamed.{count_args, is_wanted, args_wanted, kind_of, has_kind, type_of_variable, named_args, named_call, named_target}
 use Rattle.wf_named.specs.Grammar.{args_by_grammar, call_by_grammar, target_by_grammar}
@@ -33,7 +33,7 @@ use Rattle.wf_types_rules.specs.Meanings as meant
 use Rattle.wf_types_rules.specs.Operands.{differs_in}
 use Rattle.wf_types_rules.specs.ExprTypes.{given_by_base}
 use Rattle.wf_types_rules.specs.Parts.{target_parts, whole_call_parts, kept}
-use Rattle.wf_types_rules.specs.Judgements.{fails, both_fail, base_arg, wanted, result_of, is_given_nothing, gives_no_value, are_arguments, answer_type, whole_answer, target_meaning, type_in, target_type, target_place, wrong_assigned, no_value_assigned, not_kept_in_status, is_coroutine_called, keeps_no_coroutine}
+use Rattle.wf_types_rules.specs.Judgements.{fails, base_arg, wanted, target_meaning, not_kept_in_status, is_coroutine_called, keeps_no_coroutine}
 use Rattle.wf_types_rules.specs.Judgements as judged
 use Rattle.wf_types_rules.proofs.TypeRows as rows
 use Rattle.wf_typed_tree.specs.ElaboratedExprs.{variable_tree, path_tree, arg_trees}

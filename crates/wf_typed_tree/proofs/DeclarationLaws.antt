@@ -1,6 +1,6 @@
 -- The declarations of the typed tree keep the rules: the types of fields, arguments, locals and results, and no struct holds
 -- itself.
-use Rattle.std.proofs.Common.{◌≡◌, ℕ, zero, suc, ◌-◌, ◌^◌, Bool, true, ◌&&◌, List, [], ◌∷◌, length, map, Option, Some, None, refl, sym, ap, ◌∙◌, subst, arith, nat_lt, nat_eq}
+use Rattle.std.proofs.Common.{◌≡◌, ℕ, zero, suc, ◌-◌, ◌^◌, Bool, true, not, ◌&&◌, List, [], ◌∷◌, length, map, Option, Some, None, refl, sym, ap, ◌∙◌, subst, arith, nat_lt, nat_eq}
 use Rattle.std.specs.Prelude.{option_map, slice_get, min}
 use Rattle.std.proofs.lemmas.Bool.Decides.{nat_tests}
 use Rattle.std.specs.Bool.{⊤}
@@ -16,7 +16,7 @@ use Rattle.wf_base.specs.BaseTable.{bits_of}
 use Rattle.wf_ast.specs.declared.types.Ty.{Ty}
 use Rattle.wf_ast.specs.declared.types.Ty.TheVariants as types
 use Rattle.wf_ast.specs.TypedPackage.{StructTree, PackageTree}
-use Rattle.wf_ast.specs.WellTyped.{is_range, may_be_field, may_be_local, may_be_arg, may_be_result, is_whole_type, is_whole_struct, is_whole, all_structs_whole}
+use Rattle.wf_ast.specs.WellTyped.{is_range, may_be_field, may_be_local, may_be_arg, may_be_result, is_among, is_whole_type, is_whole_struct, is_whole, all_structs_whole, structs_in_front, has_struct_order}
 use Rattle.wf_named.specs.declared.nodes.BaseType.{BaseType}
 use Rattle.wf_named.specs.declared.nodes.BaseType.TheVariants as bases
 use Rattle.wf_named.specs.NamedTree.{NamedTypeTree, slice_of, array_of, base_type, struct_type, unrefined, refined, VarTree, NamedStructTree, NamedMethodTree, NamedPackageTree}
@@ -129,19 +129,22 @@ fields-whole p front behind step (x ∷ xs) all h =
     let whole = both (names.is_whole_type front x.of) (list_all (λ x. names.is_whole_type front x.of) xs) h in
     and-true (is_whole_type behind (type_declared p roles.Field x.of)) _ (type-whole p front behind step x.of all.0 whole.0) (fields-whole p front behind step xs all.1 whole.1)
 
+struct-known : (p : NamedPackageTree) (q : PackageTree) → q.structs ≡ map (typed_struct p) p.structs → PackageIs p → (front behind : ℕ → Bool) → ((k : ℕ) → front k ≡ true → behind k ≡ true)
+    → (k : ℕ) → names.is_whole_struct front (slice_get p.structs k) ≡ true → is_whole_struct behind (slice_get q.structs k) ≡ true
+struct-known p q same is front behind step k h =
+    let S : List StructTree → Type 0 = λ ss. is_whole_struct behind (slice_get ss k) ≡ true in
+    let M : Option StructTree → Type 0 = λ o. is_whole_struct behind o ≡ true in
+    subst S (sym same) (subst M (sym (slice_get-map (typed_struct p) p.structs k)) (by_struct (slice_get p.structs k) refl h))
+  where
+    by_struct : (o : Option NamedStructTree) → slice_get p.structs k ≡ o → names.is_whole_struct front o ≡ true → is_whole_struct behind (option_map (typed_struct p) (slice_get p.structs k)) ≡ true
+    by_struct None e g = absurd (cc g)
+    by_struct (Some it) e g =
+        let M : Option NamedStructTree → Type 0 = λ o. is_whole_struct behind (option_map (typed_struct p) o) ≡ true in
+        subst M (sym e) (fields-whole p front behind step it.fields (struct-declared p is k it e) g)
+
 struct-whole : (p : NamedPackageTree) (q : PackageTree) → q.structs ≡ map (typed_struct p) p.structs → PackageIs p → (levels k : ℕ) → names.is_whole p levels k ≡ true → is_whole q levels k ≡ true
 struct-whole p q same is zero k h = absurd (cc h)
-struct-whole p q same is (suc levels) k h =
-    let S : List StructTree → Type 0 = λ ss. is_whole_struct (is_whole q levels) (slice_get ss k) ≡ true in
-    let M : Option StructTree → Type 0 = λ o. is_whole_struct (is_whole q levels) o ≡ true in
-    subst S (sym same) (subst M (sym (slice_get-map (typed_struct p) p.structs k)) (by_struct (λ j. struct-whole p q same is levels j) (slice_get p.structs k) refl h))
-  where
-    by_struct : ((j : ℕ) → names.is_whole p levels j ≡ true → is_whole q levels j ≡ true) → (o : Option NamedStructTree) → slice_get p.structs k ≡ o
-        → names.is_whole_struct (names.is_whole p levels) o ≡ true → is_whole_struct (is_whole q levels) (option_map (typed_struct p) (slice_get p.structs k)) ≡ true
-    by_struct step None e g = absurd (cc g)
-    by_struct step (Some it) e g =
-        let M : Option NamedStructTree → Type 0 = λ o. is_whole_struct (is_whole q levels) (option_map (typed_struct p) o) ≡ true in
-        subst M (sym e) (fields-whole p (names.is_whole p levels) (is_whole q levels) step it.fields (struct-declared p is k it e) g)
+struct-whole p q same is (suc levels) k h = struct-known p q same is (names.is_whole p levels) (is_whole q levels) (λ j. struct-whole p q same is levels j) k h
 
 structs-whole : (p : NamedPackageTree) (q : PackageTree) → q.structs ≡ map (typed_struct p) p.structs → PackageIs p → (n : ℕ) (ss : List NamedStructTree)
     → ((i : ℕ) (it : NamedStructTree) → slice_get ss i ≡ Some it → AllDeclared p roles.Field it.fields) → named_structs p n ss ≡ true → names.all_whole p n ss ≡ true
@@ -159,6 +162,24 @@ structs-whole p q same is n (s ∷ ss) all named h =
 pub typed-structs-whole : (p : NamedPackageTree) → PackageIs p → all_structs_whole (typed_package p) 0 (typed_package p).structs ≡ true
 unfolding typed_package
 typed-structs-whole p is = structs-whole p (typed_package p) refl is 0 p.structs (λ i it e. struct-declared p is i it e) is.structs_named is.whole
+
+-- Each struct stands after those that its fields hold.
+structs-front : (p : NamedPackageTree) (q : PackageTree) → q.structs ≡ map (typed_struct p) p.structs → PackageIs p → (front rest : List ℕ) → names.structs_in_front p front rest ≡ true
+    → structs_in_front q front rest ≡ true
+structs-front p q same is front [] h = refl
+structs-front p q same is front (k ∷ ks) h =
+    let parts = both (names.is_whole_struct (names.is_among front) (slice_get p.structs k)) _ h in
+    let rest = both (not (names.is_among front k)) (names.structs_in_front p (k ∷ front) ks) parts.1 in
+    and-true (is_whole_struct (is_among front) (slice_get q.structs k)) _ (struct-known p q same is (names.is_among front) (is_among front) (λ j j-is. j-is) k parts.0)
+    (and-true (not (is_among front k)) (structs_in_front q (k ∷ front) ks) rest.0 (structs-front p q same is (k ∷ front) ks rest.1))
+
+pub typed-struct-order : (p : NamedPackageTree) → PackageIs p → has_struct_order (typed_package p) ≡ true
+unfolding typed_package
+typed-struct-order p is =
+    let held = both (nat_eq (length p.struct_order) (length p.structs)) (names.structs_in_front p [] p.struct_order) is.held_in_front in
+    let N : ℕ → Type 0 = λ k. nat_eq (length p.struct_order) k ≡ true in
+    and-true (nat_eq (length p.struct_order) (length (map (typed_struct p) p.structs))) _ (subst N (sym (length-map p.structs (typed_struct p))) held.0)
+    (structs-front p (typed_package p) refl is [] p.struct_order held.1)
 
 -- Arguments, locals and results.
 arg-may : (p : NamedPackageTree) (t : NamedTypeTree) (ty : Ty) → IsDeclared (for_types p) roles.Arg t ty → may_be_arg ty ≡ true

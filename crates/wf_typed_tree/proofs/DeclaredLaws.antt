@@ -16,7 +16,7 @@ use Rattle.wf_named.specs.declared.nodes.BaseType.TheVariants as bases
 use Rattle.wf_named.specs.declared.nodes.Variable.{Variable}
 use Rattle.wf_named.specs.declared.nodes.Variable.TheVariants as variables
 use Rattle.wf_named.specs.NamedTree.{NamedExprTree, number, status, truth, path, index, slice, answer, chain, convert, negation, absent, present, NamedLinkTrees, no_link, link, NamedTypeTree, slice_of, array_of, base_type, struct_type, unrefined, refined, NamedPackageTree}
-use Rattle.wf_named.specs.WellNamed.{Scope, type_of_variable, width_in, named_expr, named_links, named_type}
+use Rattle.wf_named.specs.WellNamed.{NamedScope, type_of_variable, width_in, named_expr, named_links, named_type}
 use Rattle.wf_types_rules.specs.declared.settings.Setting.{Setting}
 use Rattle.wf_types_rules.specs.Meanings.{all_of}
 use Rattle.wf_types_rules.specs.ExprTypes.{plain_width, base_of, refined_type, array_type, meaning, number_of, low_number, written}
@@ -127,16 +127,16 @@ placed-known p s (roles.Result mark) t other fine parts it = placed-allowed p s 
 placed-known p s roles.Conversion t other fine parts it = absurd (other refl)
 
 -- What names only constants is named among them alone.
-abbrev pub only_constants : Scope → Scope
+abbrev pub only_constants : NamedScope → NamedScope
 only_constants names = record { within = names.within; consts = names.consts; of = None; args = []; locals = [] }
 
-path-renamed : (names : Scope) (x : Variable) → not (is_constant_name x) ≡ false → is_some (type_of_variable names x) ≡ true → is_some (type_of_variable (only_constants names) x) ≡ true
+path-renamed : (names : NamedScope) (x : Variable) → not (is_constant_name x) ≡ false → is_some (type_of_variable names x) ≡ true → is_some (type_of_variable (only_constants names) x) ≡ true
 path-renamed names (variables.Const i) k n = n
 path-renamed names (variables.Local i) k n = absurd (cc k)
 path-renamed names (variables.Field i) k n = absurd (cc k)
 path-renamed names (variables.Arg i) k n = absurd (cc k)
 
-module _ (p : NamedPackageTree) (names : Scope) (s : Setting) where
+module _ (p : NamedPackageTree) (names : NamedScope) (s : Setting) where
   mutual
     expr-renamed : (e : NamedExprTree) → AllFine p s (expr_parts e) → names_others e ≡ false → named_expr names e ≡ true → named_expr (only_constants names) e ≡ true
     expr-renamed (number value at) h k n = refl

@@ -7,13 +7,13 @@ use Rattle.wf_base.specs.BaseTable.{bits_of, row_of}
 use Rattle.wf_ast.specs.declared.operators.Op.{Op}
 use Rattle.wf_ast.specs.declared.types.Ty.{Ty}
 use Rattle.wf_ast.specs.declared.types.Ty.TheVariants as types
-use Rattle.wf_ast.specs.TypedTree.{NumTree, EndTree, element, cut, ValueTree, numeric, logical, state, elements}
+use Rattle.wf_ast.specs.TypedTree.{element, cut, ValueTree, numeric, logical, state, elements}
 use Rattle.wf_ast.specs.TypedTree as typed
-use Rattle.wf_ast.specs.TypedTrees.{sort_of, num_in, cond_in, slice_in, num_type, chain_of, answer_of}
+use Rattle.wf_ast.specs.TypedTrees.{operator_kind, num_in, cond_in, slice_in, num_type, chain_of, answer_of}
 use Rattle.wf_ast.specs.WellTyped.{Context, is_width, is_whole_number, well_part, well_end}
 use Rattle.wf_named.specs.declared.nodes.NamedCallee.TheVariants as callees
 use Rattle.wf_named.specs.NamedTree.{NamedExprTree, number, status, truth, path, index, slice, answer, chain, convert, negation, NamedPartTree, absent, present, NamedLinkTrees, no_link, link, call, NamedTypeTree}
-use Rattle.wf_named.specs.WellNamed.{Scope, is_there, type_of_variable, kind_of, has_kind, is_wanted, args_wanted, count_args, named_expr, named_part, named_links, named_args, named_type}
+use Rattle.wf_named.specs.WellNamed.{NamedScope, is_there, type_of_variable, kind_of, has_kind, is_wanted, args_wanted, count_args, named_expr, named_part, named_links, named_args, named_type}
 use Rattle.wf_named.specs.Grammar.{has_operands, by_grammar, end_by_grammar, links_by_grammar}
 use Rattle.wf_types_rules.specs.declared.meanings.Meaning.{Meaning}
 use Rattle.wf_types_rules.specs.declared.meanings.Meaning.TheVariants as meanings
@@ -23,7 +23,7 @@ use Rattle.wf_types_rules.specs.declared.settings.Setting.{Setting}
 use Rattle.wf_types_rules.specs.Meanings.{all_of, variable, is_value, constant_number, place_of}
 use Rattle.wf_types_rules.specs.Operands.{meaning_of_operator}
 use Rattle.wf_types_rules.specs.ExprTypes as told
-use Rattle.wf_types_rules.specs.ExprTypes.{only_where, element_of, pure_answer, answer_inside, plain_width, converted, in_front, operand_at, if_number, meaning, if_end, operands_behind, number_of}
+use Rattle.wf_types_rules.specs.ExprTypes.{only_where, element_of, pure_answer, plain_width, converted, in_front, operand_at, if_number, meaning, if_end, operands_behind}
 use Rattle.wf_typed_tree.specs.ElaboratedExprs.{variable_tree, path_tree, type_meant, number_or, signs_in, expr_tree, end_tree, link_trees}
 use Rattle.wf_typed_tree.specs.MeaningTrees.{HasMeaning, Agree}
 use Rattle.wf_typed_tree.proofs.NumberLemmas.{both, and-true, then-parts, map-parts, where-parts, width-is, whole-number}
@@ -128,7 +128,7 @@ negated-means c at m t h k = absurd (cc h)
 only-parts : (test : Meaning → Bool) (n m : Meaning) → only_where test n ≡ Some m → (test n ≡ true) × (n ≡ m)
 only-parts test n m h = where-parts (test n) n m h
 
-module _ (names : Scope) (s : Setting) (c : Context) (agree : Agree names s c) where
+module _ (names : NamedScope) (s : Setting) (c : Context) (agree : Agree names s c) where
   mutual
     pub expr-means : (e : NamedExprTree) (m : Meaning) → by_grammar e ≡ true → named_expr names e ≡ true → meaning s e ≡ Some m → HasMeaning c m (expr_tree s e)
     expr-means (number value at) m g n h =
@@ -183,13 +183,13 @@ module _ (names : Scope) (s : Setting) (c : Context) (agree : Agree names s c) w
         let grammar = both (has_operands op links) (by_grammar first && links_by_grammar links) g in
         let inside = both (by_grammar first) (links_by_grammar links) grammar.1 in
         let named = both (named_expr names first) (named_links names links) n in
-        let all = then-parts (meaning_of_operator (sort_of op)) (in_front (option_map (operand_at (place_of first)) (meaning s first)) (operands_behind s links)) m h in
+        let all = then-parts (meaning_of_operator (operator_kind op)) (in_front (option_map (operand_at (place_of first)) (meaning s first)) (operands_behind s links)) m h in
         let parts = front-parts (option_map (operand_at (place_of first)) (meaning s first)) (operands_behind s links) all.of all.is in
         let head = operand-parts s first parts.first parts.here in
         let H : Operand → Type 0 = λ o. HasMeaning c o.of (expr_tree s first) in
         let trees : Matched c (parts.first ∷ parts.rest) (expr_tree s first ∷ link_trees s links) = (subst H head.is (expr-means first head.of inside.0 named.0 head.means), links-mean links parts.rest inside.1 named.1 parts.behind) in
-        let O : List Operand → Type 0 = λ os. meaning_of_operator (sort_of op) os ≡ Some m in
-        let P : Option Meaning → Type 0 = λ o. HasMeaning c m (number_or at (option_and_then constant_number o) (chain_of at (signs_in links) (type_meant o) (sort_of op) (expr_tree s first ∷ link_trees s links))) in
+        let O : List Operand → Type 0 = λ os. meaning_of_operator (operator_kind op) os ≡ Some m in
+        let P : Option Meaning → Type 0 = λ o. HasMeaning c m (number_or at (option_and_then constant_number o) (chain_of at (signs_in links) (type_meant o) (operator_kind op) (expr_tree s first ∷ link_trees s links))) in
         subst P (sym h)
         (operator-means c at (signs_in links) op parts.first parts.rest (expr_tree s first) (link_trees s links) m (row-of s op links parts.rest grammar.0 parts.behind)
         (subst O (sym parts.is) all.gives) trees)

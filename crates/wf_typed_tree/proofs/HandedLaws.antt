@@ -10,7 +10,7 @@ use Rattle.wf_ast.specs.declared.types.Ty.{Ty}
 use Rattle.wf_ast.specs.declared.types.Ty.TheVariants as types
 use Rattle.wf_ast.specs.declared.variables.ArgId.{ArgId}
 use Rattle.wf_ast.specs.TypedTree.{Order, equal, differs, less, at_most, greater, at_least, ValueTree, numeric, logical, state, elements, io, lost}
-use Rattle.wf_ast.specs.TypedTrees.{Sort, arithmetic, ordering, joining, sort_of, named, comparison, chain_of, answer_of}
+use Rattle.wf_ast.specs.TypedTrees.{OperatorKind, arithmetic, ordering, joining, operator_kind, named, comparison, chain_of, answer_of}
 use Rattle.wf_ast.specs.TypedInvariant.{is_io}
 use Rattle.wf_ast.specs.WellTyped.{io_handed, is_that, hands_on, never_again, hands_on_once}
 use Rattle.wf_named.specs.declared.nodes.BaseType.TheVariants as bases
@@ -131,7 +131,7 @@ none-compared at sign at_most t u = refl
 none-compared at sign greater t u = refl
 none-compared at sign at_least t u = refl
 
-none-chained : (at : Place) (signs : List Place) (ty : Ty) (sort : Sort) (t : ValueTree) (ts : List ValueTree) → io_handed (chain_of at signs ty sort (t ∷ ts)) ≡ None
+none-chained : (at : Place) (signs : List Place) (ty : Ty) (sort : OperatorKind) (t : ValueTree) (ts : List ValueTree) → io_handed (chain_of at signs ty sort (t ∷ ts)) ≡ None
 none-chained at signs ty (arithmetic op) t ts = refl
 none-chained at signs ty (joining and_all) t ts = refl
 none-chained at signs ty (ordering op) t [] = refl
@@ -204,8 +204,8 @@ module _ (p : NamedPackageTree) (n : ℕ) (m : NamedMethodTree) (is : MethodIs p
   io-same (answer c) a h = absurd (none-so (answer_tree (around p n m is) c) a (none-called (around p n m is) c) h)
   io-same (chain op first links at) a h =
       let s = around p n m is in
-      let whole = chain_of at (signs_in links) (type_of s (chain op first links at)) (sort_of op) (expr_tree s first ∷ link_trees s links) in
-      absurd (none-so (number_or at (number_of s (chain op first links at)) whole) a (none-or at (number_of s (chain op first links at)) whole (none-chained at (signs_in links) _ (sort_of op) _ _)) h)
+      let whole = chain_of at (signs_in links) (type_of s (chain op first links at)) (operator_kind op) (expr_tree s first ∷ link_trees s links) in
+      absurd (none-so (number_or at (number_of s (chain op first links at)) whole) a (none-or at (number_of s (chain op first links at)) whole (none-chained at (signs_in links) _ (operator_kind op) _ _)) h)
   io-same (convert e t at) a h =
       absurd (none-so (expr_tree (around p n m is) (convert e t at)) a (none-or at (number_of (around p n m is) (convert e t at)) _ refl) h)
   io-same (negation e at) a h = absurd (cc h)

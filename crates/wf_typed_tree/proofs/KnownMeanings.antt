@@ -12,14 +12,14 @@ use Rattle.wf_base.specs.declared.base_methods.BaseSig.TheVariants as sigs
 use Rattle.wf_base.specs.BaseTable.{bits_of, row_of}
 use Rattle.wf_ast.specs.declared.types.Ty.{Ty}
 use Rattle.wf_ast.specs.declared.types.Ty.TheVariants as types
-use Rattle.wf_ast.specs.TypedTrees.{Sort, sort_of}
+use Rattle.wf_ast.specs.TypedTrees.{OperatorKind, operator_kind}
 use Rattle.wf_ast.specs.WellTyped.{is_pure, same_mark}
 use Rattle.wf_named.specs.declared.nodes.BaseType.{BaseType}
 use Rattle.wf_named.specs.declared.nodes.BaseType.TheVariants as bases
 use Rattle.wf_named.specs.declared.nodes.NamedCallee.TheVariants as callees
 use Rattle.wf_named.specs.declared.nodes.Variable.{Variable}
 use Rattle.wf_named.specs.NamedTree.{NamedExprTree, number, status, truth, path, index, slice, answer, chain, convert, negation, NamedPartTree, absent, present, NamedLinkTrees, no_link, link, call, NamedTypeTree, slice_of, array_of, base_type, struct_type, unrefined, refined, NamedPackageTree}
-use Rattle.wf_named.specs.WellNamed.{Scope, is_there, type_of_variable, kind_of, has_kind, is_wanted, args_wanted, count_args, named_expr, named_part, named_links, named_args, named_type}
+use Rattle.wf_named.specs.WellNamed.{NamedScope, is_there, type_of_variable, kind_of, has_kind, is_wanted, args_wanted, count_args, named_expr, named_part, named_links, named_args, named_type}
 use Rattle.wf_types_rules.specs.declared.meanings.Meaning.{Meaning}
 use Rattle.wf_types_rules.specs.declared.meanings.Meaning.TheVariants as meanings
 use Rattle.wf_types_rules.specs.declared.meanings.Operand.{Operand}
@@ -88,7 +88,7 @@ pure-known sig Pure m h k = given-known (row_of sig).mark k (pure-gives sig)
 pure-known sig mark m h k = absurd (cc h)
 
 -- Operators.
-operator-known : (sort : Sort) (os : List Operand) → not_taken sort os ≡ None → not_fitting sort os ≡ None → has_no_value sort os ≡ false → HasValue (meaning_of_operator sort os)
+operator-known : (sort : OperatorKind) (os : List Operand) → not_taken sort os ≡ None → not_fitting sort os ≡ None → has_no_value sort os ≡ false → HasValue (meaning_of_operator sort os)
 operator-known sort os h k v =
     let taken : are_taken sort os ≡ true = rw (h, k) refl in
     by_given (given sort os) refl taken
@@ -187,7 +187,7 @@ form-known p s (base_type (Some (bases.Number width)) at (refined low high)) ty 
 form-known p s (base_type (Some of) at (refined low high)) ty h e = absurd (cc e)
 form-known p s (struct_type n at) ty h e = let same : types.Part (record { 0 = n }) ≡ ty = cc e in let F : Ty → Type 0 = λ z. Some forms.Struct ≡ Some (form_of z) in subst F same refl
 
-module _ (p : NamedPackageTree) (names : Scope) (s : Setting) (known : (x : Variable) → is_some (type_of_variable names x) ≡ true → HasValue (variable s x)) where
+module _ (p : NamedPackageTree) (names : NamedScope) (s : Setting) (known : (x : Variable) → is_some (type_of_variable names x) ≡ true → HasValue (variable s x)) where
   mutual
     pub expr-known : (e : NamedExprTree) → AllFine p s (expr_parts e) → named_expr names e ≡ true → HasValue (meaning s e)
     expr-known (number value at) h n = (_, refl)
@@ -246,14 +246,14 @@ module _ (p : NamedPackageTree) (names : Scope) (s : Setting) (known : (x : Vari
         let front = map-known (operand_at (place_of first)) (meaning s first) head.0 head.1 in
         let all : operands s first links ≡ Some (operand_at (place_of first) head.0 ∷ behind.0) = front-known _ _ (operand_at (place_of first) head.0) behind.0 front behind.1 in
         let os : List Operand = operand_at (place_of first) head.0 ∷ behind.0 in
-        let P : Option (List Operand) → Type 0 = λ o. option_and_then (not_taken (sort_of op)) o ≡ None in
-        let Q : Option (List Operand) → Type 0 = λ o. option_and_then (not_fitting (sort_of op)) o ≡ None in
+        let P : Option (List Operand) → Type 0 = λ o. option_and_then (not_taken (operator_kind op)) o ≡ None in
+        let Q : Option (List Operand) → Type 0 = λ o. option_and_then (not_fitting (operator_kind op)) o ≡ None in
         let taken = subst P all (h.0 T1 wrong_operand rows.wrong_operand) in
         let fitting = subst Q all (h.0 T5 unfit_operand rows.unfit_operand) in
-        let V : Option (List Operand) → Type 0 = λ o. meets (has_no_value (sort_of op)) o ≡ false in
+        let V : Option (List Operand) → Type 0 = λ o. meets (has_no_value (operator_kind op)) o ≡ false in
         let valued = subst V all (at-none _ at (h.0 T5 node_without_value rows.node_without_value)) in
-        let gives = operator-known (sort_of op) os taken fitting valued in
-        (gives.0, then-known (meaning_of_operator (sort_of op)) (operands s first links) os gives.0 all gives.1)
+        let gives = operator-known (operator_kind op) os taken fitting valued in
+        (gives.0, then-known (meaning_of_operator (operator_kind op)) (operands s first links) os gives.0 all gives.1)
     expr-known (convert e t at) h n =
         let named = both (named_expr names e) (named_type names t) n in
         let parts = fine-split p s (expr_parts e) (type_parts t) h.1.1 in

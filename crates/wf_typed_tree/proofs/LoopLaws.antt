@@ -12,7 +12,7 @@ use Rattle.wf_ast.specs.TypedTrees.{answer_of, base_call}
 use Rattle.wf_ast.specs.WellTyped.{is_pure, breaks}
 use Rattle.wf_named.specs.declared.nodes.NamedCallee.TheVariants as callees
 use Rattle.wf_named.specs.NamedTree.{NamedExprTree, answer, NamedCallTree, call, NamedTargetTree, NamedStmtTree, assign, keep, do_call, branch, loop, leave, again, back, suspend, claim, NamedBlockTree, close, more_stmts, NamedArmTrees, no_else, otherwise, arm}
-use Rattle.wf_named.specs.WellNamed.{Scope, named_expr, named_clauses, named_stmt, named_block, named_arms}
+use Rattle.wf_named.specs.WellNamed.{NamedScope, named_expr, named_clauses, named_stmt, named_block, named_arms}
 use Rattle.wf_named.specs.Grammar.{stmt_by_grammar, block_by_grammar, arms_by_grammar, by_grammar, clauses_by_grammar}
 use Rattle.wf_types_rules.specs.declared.settings.Setting.{Setting}
 use Rattle.wf_types_rules.specs.Judgements.{stmt_leaves, block_leaves, arms_leave}
@@ -84,7 +84,7 @@ or-none false = refl
 or-same : (a b c d : Bool) → a ≡ b → c ≡ d → (a || c) ≡ (b || d)
 or-same a b c d e f = ap (λ x. x || c) e ∙ ap (λ x. b || x) f
 
-module _ (s : Setting) (names : Scope) where
+module _ (s : Setting) (names : NamedScope) where
   mutual
     stmt-breaks : (w k : ℕ) (loops : List ℕ) (n : ℕ) (st : NamedStmtTree) (rest : Block) → StandsAt w k loops → n + count_stmt st ≤ w → stmt_by_grammar st ≡ true
         → named_stmt names (length loops) st ≡ true → breaks w (stmt_tree s loops n st rest) ≡ (stmt_leaves k st || breaks w rest)

@@ -9,7 +9,7 @@ use Rattle.wf_ast.specs.declared.types.Ty.TheVariants as types
 use Rattle.wf_ast.specs.TypedTree.{NumType, NumTree, number, read, element, link, convert, length_of, asked, ValueTree, numeric}
 use Rattle.wf_ast.specs.WellTyped.{Context, fits, is_width, same_num_type, width_of, varies, is_constant, is_whole_number, well_part}
 use Rattle.wf_named.specs.NamedTree.{NamedExprTree, NamedArgTrees, more_args}
-use Rattle.wf_named.specs.WellNamed.{Scope, named_expr, named_args}
+use Rattle.wf_named.specs.WellNamed.{NamedScope, named_expr, named_args}
 use Rattle.wf_types_rules.specs.declared.meanings.Meaning.{Meaning}
 use Rattle.wf_types_rules.specs.declared.meanings.Meaning.TheVariants as meanings
 use Rattle.wf_types_rules.specs.Meanings as meant
@@ -39,7 +39,7 @@ pub equal-numbers : (m n : ℕ) → nat_eq m n ≡ true → m ≡ n
 equal-numbers m n h = grind (arith, nat_tests, h)
 
 -- An argument that is named, and those after it.
-pub named-more : (s : Scope) (e : NamedExprTree) (others : NamedArgTrees) → named_args s (more_args e others) ≡ true → (named_expr s e ≡ true) × (named_args s others ≡ true)
+pub named-more : (s : NamedScope) (e : NamedExprTree) (others : NamedArgTrees) → named_args s (more_args e others) ≡ true → (named_expr s e ≡ true) × (named_args s others ≡ true)
 named-more s e others h = let first = both (named_expr s e) _ h in (first.0, (both (named_args s others) _ first.1).0)
 
 -- What `and_then` and `map` are made of.

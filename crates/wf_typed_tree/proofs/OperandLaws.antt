@@ -7,13 +7,13 @@ use Rattle.wf_base.specs.declared.widths.Width.{Width}
 use Rattle.wf_base.specs.BaseTable.{bits_of}
 use Rattle.wf_ast.specs.declared.types.Ty.TheVariants as types
 use Rattle.wf_ast.specs.TypedTree.{NumTree, number, CondTree, junction, ValueTree, numeric}
-use Rattle.wf_ast.specs.TypedTrees.{Sort, joining, cond_in, cond_chain, chain_of}
+use Rattle.wf_ast.specs.TypedTrees.{OperatorKind, joining, cond_in, cond_chain, chain_of}
 use Rattle.wf_ast.specs.WellTyped.{Context, fits, is_whole_number, well_part, well_cond}
 use Rattle.wf_types_rules.specs.declared.meanings.Meaning.{Meaning}
 use Rattle.wf_types_rules.specs.declared.meanings.Meaning.TheVariants as meanings
 use Rattle.wf_types_rules.specs.declared.meanings.Operand.{Operand}
 use Rattle.wf_types_rules.specs.Meanings as meant
-use Rattle.wf_types_rules.specs.Meanings.{all_of, same_width, constant_number}
+use Rattle.wf_types_rules.specs.Meanings.{same_width, constant_number}
 use Rattle.wf_types_rules.specs.Operands.{first_not, first_of, differs_in, not_of_one_width, not_taken, common_width, fits_width, not_fitting, are_taken, given, meaning_of_operator}
 use Rattle.wf_typed_tree.specs.ElaboratedExprs.{type_meant, number_or}
 use Rattle.wf_typed_tree.specs.MeaningTrees.{IsCondition, HasMeaning}
@@ -26,7 +26,7 @@ Matched c (o ∷ os) (t ∷ ts) = HasMeaning c o.of t × Matched c os ts
 Matched c os ts = ⊥
 
 -- What an operator's meaning is made of.
-pub record Taken (sort : Sort) (os : List Operand) (m : Meaning) : Type 0 where
+pub record Taken (sort : OperatorKind) (os : List Operand) (m : Meaning) : Type 0 where
   pub taken : not_taken sort os ≡ None
   pub fitting : not_fitting sort os ≡ None
   pub gives : given sort os ≡ Some m
@@ -35,7 +35,7 @@ none-there : {X : Type 0} (o : Option X) → not (is_some o) ≡ true → o ≡ 
 none-there None h = refl
 none-there (Some x) h = absurd (cc h)
 
-pub taken-parts : (sort : Sort) (os : List Operand) (m : Meaning) → meaning_of_operator sort os ≡ Some m → Taken sort os m
+pub taken-parts : (sort : OperatorKind) (os : List Operand) (m : Meaning) → meaning_of_operator sort os ≡ Some m → Taken sort os m
 taken-parts sort os m h = by_test (are_taken sort os) refl h
   where
     by_test : (b : Bool) → are_taken sort os ≡ b → (if b then given sort os else None) ≡ Some m → Taken sort os m

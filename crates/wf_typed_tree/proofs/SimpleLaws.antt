@@ -15,7 +15,7 @@ use Rattle.wf_ast.specs.declared.types.Ty.TheVariants as types
 use Rattle.wf_ast.specs.BaseStatuses.{base_statuses}
 use Rattle.wf_ast.specs.TypedTree.{Arith, NumTree, link, numeric, Target, ValueTree}
 use Rattle.wf_ast.specs.TypedTree as typed
-use Rattle.wf_ast.specs.TypedTrees.{Sort, arithmetic, sort_of, num_in, cond_in, chain_of, arithmetic_of}
+use Rattle.wf_ast.specs.TypedTrees.{OperatorKind, arithmetic, operator_kind, num_in, cond_in, chain_of, arithmetic_of}
 use Rattle.wf_ast.specs.Same.{same_arith, arith_number}
 use Rattle.wf_ast.specs.WellTyped.{Context, is_coroutine, may_go_into, is_shift, is_whole_number, well_part, well_num, well_cond, fits_type, well_assigned, is_operator, well_returned, is_suspension, well_axiom, well_simple}
 use Rattle.wf_ast.specs.OperatorForms.{updates, is_arithmetic}
@@ -54,7 +54,7 @@ use Rattle.wf_typed_tree.proofs.CallStmtLaws.{target-is}
 use Rattle.wf_typed_tree.proofs.AssignedCallLaws.{call-assigned-keeps}
 
 -- An operator with `=` gives a number of its target's width.
-number-sort : (sort : Sort) → is_arithmetic sort ≡ true → (op : Arith) × (sort ≡ arithmetic op)
+number-sort : (sort : OperatorKind) → is_arithmetic sort ≡ true → (op : Arith) × (sort ≡ arithmetic op)
 number-sort (arithmetic op) h = (op, refl)
 number-sort sort h = absurd (cc h)
 
@@ -76,7 +76,7 @@ given-number op at width lo hi q = by_shift (is_shift op)
     by_shift true = refl
     by_shift false = refl
 
-operator-is : (sort : Sort) (os : List Operand) (m : Meaning) → not_taken sort os ≡ None → not_fitting sort os ≡ None → given sort os ≡ Some m → meaning_of_operator sort os ≡ Some m
+operator-is : (sort : OperatorKind) (os : List Operand) (m : Meaning) → not_taken sort os ≡ None → not_fitting sort os ≡ None → given sort os ≡ Some m → meaning_of_operator sort os ≡ Some m
 operator-is sort os m h k g = let taken : are_taken sort os ≡ true = rw (h, k) refl in rw taken g
 
 update-means : (c : Context) (sign : Place) (op : Arith) (o q : Operand) (t u : ValueTree) (m : Meaning) → meaning_of_operator (arithmetic op) (o ∷ q ∷ []) ≡ Some m
@@ -155,28 +155,28 @@ module _ (p : NamedPackageTree) (n : ℕ) (m : NamedMethodTree) (is : MethodIs p
       to.accepts.assigned of (fits-value (context p n m is) to.ty it.of of taken (value-is p n m is it.of of it.tree) it.tree)
 
   updated-value : (loops : List ℕ) (t : NamedTargetTree) (op : Op) (sign : Place) (e : NamedExprTree) → AllFine p (around p n m is) (assigned t (Some op) e ∷ (target_parts t ++ expr_parts e))
-      → is_arithmetic (sort_of op) ≡ true → target_by_grammar t ≡ true → by_grammar e ≡ true → named_target (names p n m is) t ≡ true → named_expr (names p n m is) e ≡ true
-      → well_simple (context p n m is) loops (typed.assign (target_tree (around p n m is) t) (arithmetic_of (sort_of op)) (update_tree (around p n m is) t op sign e)) ≡ true
+      → is_arithmetic (operator_kind op) ≡ true → target_by_grammar t ≡ true → by_grammar e ≡ true → named_target (names p n m is) t ≡ true → named_expr (names p n m is) e ≡ true
+      → well_simple (context p n m is) loops (typed.assign (target_tree (around p n m is) t) (arithmetic_of (operator_kind op)) (update_tree (around p n m is) t op sign e)) ≡ true
   updated-value loops t op sign e h number gt ge kt ke =
       let parts = fine-split p (around p n m is) (target_parts t) (expr_parts e) h.1 in
       let to = target-is p n m is whole t parts.0 gt kt in
       let it = value-of p n m is e parts.1 ge ke in
-      let sort = number-sort (sort_of op) number in
+      let sort = number-sort (operator_kind op) number in
       let o : Operand = operand_at (target_place t) (meanings.Typed to.ty) in
       let q : Operand = operand_at (place_of e) it.of in
       let all : updated (around p n m is) t e ≡ Some (o ∷ q ∷ []) =
       front-known _ _ o (q ∷ []) (map-known (operand_at (target_place t)) (target_meaning (around p n m is) t) (meanings.Typed to.ty) to.means)
       (front-known _ (Some []) q [] (map-known (operand_at (place_of e)) (meaning (around p n m is) e) it.of it.means) refl) in
-      let T : Option (List Operand) → Type 0 = λ x. option_and_then (not_taken (sort_of op)) x ≡ None in
-      let U : Option (List Operand) → Type 0 = λ x. option_and_then (not_fitting (sort_of op)) x ≡ None in
+      let T : Option (List Operand) → Type 0 = λ x. option_and_then (not_taken (operator_kind op)) x ≡ None in
+      let U : Option (List Operand) → Type 0 = λ x. option_and_then (not_fitting (operator_kind op)) x ≡ None in
       let taken = subst T all (h.0 T1 wrong_update rows.wrong_update) in
       let fitting = subst U all (h.0 T5 unfit_update rows.unfit_update) in
-      let TS : Sort → Type 0 = λ s. not_taken s (o ∷ q ∷ []) ≡ None in
-      let US : Sort → Type 0 = λ s. not_fitting s (o ∷ q ∷ []) ≡ None in
+      let TS : OperatorKind → Type 0 = λ s. not_taken s (o ∷ q ∷ []) ≡ None in
+      let US : OperatorKind → Type 0 = λ s. not_fitting s (o ∷ q ∷ []) ≡ None in
       let target : Target = target_tree (around p n m is) t in
       let left : ValueTree = written_to (around p n m is) t in
       let right : ValueTree = expr_tree (around p n m is) e in
-      let Q : Sort → Type 0 = λ s. well_simple (context p n m is) loops (typed.assign target (arithmetic_of s) (chain_of sign (sign ∷ []) (type_of_update (around p n m is) t) s (left ∷ right ∷ []))) ≡ true in
+      let Q : OperatorKind → Type 0 = λ s. well_simple (context p n m is) loops (typed.assign target (arithmetic_of s) (chain_of sign (sign ∷ []) (type_of_update (around p n m is) t) s (left ∷ right ∷ []))) ≡ true in
       let R : Option Meaning → Type 0 = λ x. well_simple (context p n m is) loops (typed.assign target (Some sort.0) (chain_of sign (sign ∷ []) (unrefined (type_meant x)) (arithmetic sort.0) (left ∷ right ∷ []))) ≡ true in
       subst Q (sym sort.1)
       (subst R (sym to.means)

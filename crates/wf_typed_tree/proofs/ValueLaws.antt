@@ -10,11 +10,10 @@ use Rattle.wf_ast.specs.WellTyped.{Context, type_at, is_flag, is_status, is_slic
 use Rattle.wf_types_rules.specs.declared.meanings.Meaning.{Meaning}
 use Rattle.wf_types_rules.specs.declared.meanings.Meaning.TheVariants as meanings
 use Rattle.wf_types_rules.specs.Meanings as meant
-use Rattle.wf_types_rules.specs.Meanings.{all_of, variable, is_value, same_width, place_of}
+use Rattle.wf_types_rules.specs.Meanings.{all_of, is_value}
 use Rattle.wf_types_rules.specs.Operands.{differs_in}
 use Rattle.wf_types_rules.specs.ExprTypes.{element_of}
 use Rattle.wf_types_rules.specs.Judgements as judged
-use Rattle.wf_types_rules.specs.Judgements.{at_if, fails, both_fail, wanted, meaning_of_argument, may_be_handed, wrong_argument, wrong_target, is_no_target, is_no_target_of, target_meaning, type_in, target_type, wrong_condition, is_outside, impure_write}
 use Rattle.wf_typed_tree.specs.MeaningTrees.{HasMeaning}
 use Rattle.wf_typed_tree.proofs.NumberLemmas.{both, and-true, same-self, same-bits, in-64}
 use Rattle.wf_typed_tree.proofs.OperandLaws.{fits-one, operand-of, condition-of}

@@ -18,13 +18,13 @@ use Rattle.wf_ast.specs.TypedTrees.{num_in, slice_in, io_in, status_in, named, n
 use Rattle.wf_ast.specs.WellTyped.{Context, type_at, is_range, same_num_type, is_unrefined, is_number, is_array, is_slice, is_flag, is_status, is_reader, question_width, may_ask, element_type, is_whole_number, well_part, well_slice, well_end, is_pure}
 use Rattle.wf_named.specs.declared.nodes.NamedPath.{NamedPath}
 use Rattle.wf_named.specs.declared.nodes.Variable.{Variable}
-use Rattle.wf_named.specs.WellNamed.{Scope, has_kind}
+use Rattle.wf_named.specs.WellNamed.{NamedScope, has_kind}
 use Rattle.wf_types_rules.specs.declared.meanings.Meaning.{Meaning}
 use Rattle.wf_types_rules.specs.declared.meanings.Meaning.TheVariants as meanings
 use Rattle.wf_types_rules.specs.declared.settings.Setting.{Setting}
 use Rattle.wf_types_rules.specs.Meanings.{all_of, variable, is_value}
 use Rattle.wf_types_rules.specs.ExprTypes as told
-use Rattle.wf_types_rules.specs.ExprTypes.{element_of, given_by_base, pure_answer}
+use Rattle.wf_types_rules.specs.ExprTypes.{element_of, pure_answer}
 use Rattle.wf_typed_tree.specs.ElaboratedExprs.{path_to, variable_tree, type_meant}
 use Rattle.wf_typed_tree.specs.MeaningTrees.{IsStatus, HasMeaning, kind_meant, Agree}
 use Rattle.wf_typed_tree.proofs.NumberLemmas.{and-true, same-self, where-parts, same-type, IsWhole}
@@ -104,7 +104,7 @@ array-meant : (width : Width) (m : Meaning) → has_kind (kinds.Array width) (ki
 array-meant width (meanings.Typed (types.Array own lo hi count)) h = (types.Num own lo hi, refl)
 array-meant width m h = absurd (cc h)
 
-module _ (names : Scope) (s : Setting) (c : Context) (agree : Agree names s c) where
+module _ (names : NamedScope) (s : Setting) (c : Context) (agree : Agree names s c) where
   pub variable-means : (at : Place) (x : Variable) (m : Meaning) → variable s x ≡ Some m → is_value m ≡ true → HasMeaning c m (variable_tree at x (Some m))
   variable-means at x (meanings.Constant width n) h v = record { at = at; is = refl; fits = agree.constant x width n h }
   variable-means at x (meanings.Typed (types.Num width lo hi)) h v =

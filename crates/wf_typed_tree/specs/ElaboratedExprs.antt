@@ -7,7 +7,7 @@ use Rattle.wf_ast.specs.declared.types.Ty.{Ty}
 use Rattle.wf_ast.specs.declared.types.Ty.TheVariants as types
 use Rattle.wf_ast.specs.TypedTree.{ValueTree, numeric, logical, state, elements, lost, EndTree, element, cut}
 use Rattle.wf_ast.specs.TypedTree as typed
-use Rattle.wf_ast.specs.TypedTrees.{sort_of, num_in, cond_in, slice_in, named, num_type, chain_of, answer_of}
+use Rattle.wf_ast.specs.TypedTrees.{operator_kind, num_in, cond_in, slice_in, named, num_type, chain_of, answer_of}
 use Rattle.wf_named.specs.declared.nodes.NamedCallee.TheVariants as callees
 use Rattle.wf_named.specs.declared.nodes.NamedPath.{NamedPath}
 use Rattle.wf_named.specs.declared.nodes.Variable.{Variable}
@@ -71,7 +71,7 @@ abbrev mutual
   expr_tree s (answer c) = answer_tree s c
   expr_tree s (chain op first links at) =
       number_or at (number_of s (chain op first links at))
-      (chain_of at (signs_in links) (type_of s (chain op first links at)) (sort_of op) (expr_tree s first ∷ link_trees s links))
+      (chain_of at (signs_in links) (type_of s (chain op first links at)) (operator_kind op) (expr_tree s first ∷ link_trees s links))
   expr_tree s (convert e t at) =
       number_or at (number_of s (convert e t at)) (numeric (typed.convert at at (num_type (type_of s (convert e t at))).bits (num_in (expr_tree s e))))
   expr_tree s (negation e at) = logical (typed.negation at (cond_in (expr_tree s e)))

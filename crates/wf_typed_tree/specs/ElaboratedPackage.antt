@@ -59,6 +59,7 @@ typed_package p =
       structs = map (typed_struct p) p.structs;
       methods = typed_methods p 0 p.methods;
       order = p.order;
+      struct_order = p.struct_order;
     }
 
 -- What stands round the typed body of a method.

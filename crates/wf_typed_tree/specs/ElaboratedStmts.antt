@@ -9,7 +9,7 @@ use Rattle.wf_ast.specs.declared.types.Ty.{Ty}
 use Rattle.wf_ast.specs.declared.types.Ty.TheVariants as types
 use Rattle.wf_ast.specs.TypedTree.{NumTree, CondTree, ValueTree, Target, to_nothing, Axiom, Simple, invoke, own, sub, break_from, continue_in, give_back, yield, Site, Head, Block, end, plain, choose}
 use Rattle.wf_ast.specs.TypedTree as typed
-use Rattle.wf_ast.specs.TypedTrees.{sort_of, num_in, cond_in, chain_of, answer_of, target_of, arithmetic_of, base_call, no_statement}
+use Rattle.wf_ast.specs.TypedTrees.{operator_kind, num_in, cond_in, chain_of, answer_of, target_of, arithmetic_of, base_call, no_statement}
 use Rattle.wf_ast.specs.WellTyped.{is_pure}
 use Rattle.wf_named.specs.declared.nodes.NamedCallee.TheVariants as callees
 use Rattle.wf_named.specs.NamedTree.{NamedExprTree, status, index, answer, NamedPartTree, absent, present, NamedCallTree, call, NamedTargetTree, to_path, to_element, NamedClauseTrees, no_clause, more_clauses, LetterTrees, no_letter, more_letters, NamedViaTree, by_itself, via, NamedStmtTree, assign, keep, do_call, branch, loop, leave, again, back, suspend, claim, NamedBlockTree, close, more_stmts, NamedArmTrees, no_else, otherwise, arm}
@@ -37,7 +37,7 @@ type_of_update s t = unrefined (type_meant (target_meaning s t))
 
 -- It stands between the target and the value.
 abbrev pub update_tree : Setting → NamedTargetTree → Op → (sign : Place) → NamedExprTree → ValueTree
-update_tree s t op sign e = chain_of sign (sign ∷ []) (type_of_update s t) (sort_of op) (written_to s t ∷ expr_tree s e ∷ [])
+update_tree s t op sign e = chain_of sign (sign ∷ []) (type_of_update s t) (operator_kind op) (written_to s t ∷ expr_tree s e ∷ [])
 
 -- A call that is a whole statement, or a whole right side.
 abbrev pub call_tree : Setting → Target → (kept : Bool) → NamedCallTree → Simple
@@ -52,7 +52,7 @@ assigned_call s target (call (callees.Base on sig) at mark args) =
 assigned_call s target c = call_tree s target false c
 
 abbrev pub assign_tree : Setting → NamedTargetTree → Option Op → (sign : Place) → NamedExprTree → Simple
-assign_tree s t (Some op) sign e = typed.assign (target_tree s t) (arithmetic_of (sort_of op)) (update_tree s t op sign e)
+assign_tree s t (Some op) sign e = typed.assign (target_tree s t) (arithmetic_of (operator_kind op)) (update_tree s t op sign e)
 assign_tree s t None sign (answer c) = assigned_call s (target_tree s t) c
 assign_tree s t None sign e = typed.assign (target_tree s t) None (expr_tree s e)
 

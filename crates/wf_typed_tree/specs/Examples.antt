@@ -8,7 +8,7 @@ use Rattle.wf_base.specs.declared.base_methods.ReadForm.TheVariants.{ReadU8}
 use Rattle.wf_ast.specs.BaseStatuses.{base_statuses}
 use Rattle.wf_ast.specs.declared.operators.Op.{Op}
 use Rattle.wf_ast.specs.declared.types.Ty.TheVariants as types
-use Rattle.wf_ast.specs.TypedTree.{NumType, NumTree, ValueTree, Block, numeric, state, plain, choose, end, await, take_number, give_back, break_from, invoke, own, to_number, to_nothing, mod_plus, compare, equal, less, read}
+use Rattle.wf_ast.specs.TypedTree.{NumType, NumTree, Block, numeric, state, plain, choose, end, await, take_number, give_back, break_from, invoke, own, to_number, to_nothing, mod_plus, compare, equal, less, read}
 use Rattle.wf_ast.specs.TypedTree as typed
 use Rattle.wf_ast.specs.TypedPackage.{MethodTree, PackageTree}
 use Rattle.wf_named.specs.declared.nodes.BaseType.TheVariants as bases
@@ -84,6 +84,7 @@ typed_counting =
       structs = record { name = codes "counter"; public = true; fields = record { name = codes "digits"; ty = types.Num W32 0 4294967295 } ∷ [] } ∷ [];
       methods = counted ∷ stepped ∷ [];
       order = 1 ∷ 0 ∷ [];
+      struct_order = 0 ∷ [];
     }
 
 -- A package for single statements. It has the statuses `#bad` and `$wait`, which are 10 and 11, the constant
@@ -165,6 +166,7 @@ with_f f =
       structs = struct_s ∷ struct_t ∷ [];
       methods = f ∷ method_g ∷ method_h ∷ method_bump ∷ [];
       order = 1 ∷ 2 ∷ 3 ∷ 0 ∷ [];
+      struct_order = 1 ∷ 0 ∷ [];
     }
 
 -- A method with this mark and no result that does this alone.

@@ -10,7 +10,7 @@ use Rattle.wf_ast.specs.declared.types.Ty.TheVariants as types
 use Rattle.wf_ast.specs.TypedTree.{Path, arg, NumTree, number, SliceTree, StatusTree, CondTree, ValueTree, numeric, logical, state, elements}
 use Rattle.wf_ast.specs.WellTyped.{Context, type_at, is_range, width_of, varies, well_part, well_slice, well_status, well_cond, element_type}
 use Rattle.wf_named.specs.declared.nodes.Variable.{Variable}
-use Rattle.wf_named.specs.WellNamed.{Scope, type_of_variable, kind_of, has_kind}
+use Rattle.wf_named.specs.WellNamed.{NamedScope, type_of_variable, kind_of, has_kind}
 use Rattle.wf_types_rules.specs.declared.meanings.Meaning.{Meaning}
 use Rattle.wf_types_rules.specs.declared.meanings.Meaning.TheVariants as meanings
 use Rattle.wf_types_rules.specs.declared.settings.Setting.{Setting}
@@ -80,7 +80,7 @@ kind_meant (meanings.Typed ty) = kind_of_type ty
 
 -- What stands round a resolved expression, for its names and for its types, is what stands round the typed tree: each
 -- variable has its type there, each constant lies in its width, and each status is there.
-pub record Agree (names : Scope) (s : Setting) (c : Context) : Type 0 where
+pub record Agree (names : NamedScope) (s : Setting) (c : Context) : Type 0 where
   pub declared : (x : Variable) (ty : Ty) → variable s x ≡ Some (meanings.Typed ty) → type_at c (path_to x) ≡ Some ty
   pub sound : (x : Variable) (ty : Ty) → variable s x ≡ Some (meanings.Typed ty) → IsSound (path_to x) ty
   pub constant : (x : Variable) (width : Option Width) (value : ℕ) → variable s x ≡ Some (meanings.Constant width value) → nat_lt value (2 ^ bits_in width) ≡ true

@@ -8,7 +8,7 @@ ghost use Rattle.wf_base.specs.declared.base_methods.PeekForm.TheVariants.{PeekU
 ghost use Rattle.wf_base.specs.declared.marks.Mark.TheVariants.{Pure, Impure, Coroutine};
 ghost use Rattle.wf_ast.specs.declared.parsed.Clause.TheVariants.{Inv};
 ghost use Rattle.wf_text.specs.declared.categories.Category.TheVariants.{Fault};
-ghost use Rattle.wf_ast.specs.TypedTree.{plus, minus, shift_left, sat_plus, bits_or, less, at_least, greater, number, read, element, link, convert, length_of, asked, peek, slice, array, cut, absent, present, status, held, truth, flag, compare, same_status, junction, negation, closed, has_category, numeric, logical, state, elements, to_number, to_element, to_flag, to_status, to_slice, to_nothing, take_number, skip, write, skip_fast, write_fast, copy_to_writer, copy_to_slice, own, sub, assign, await, perform, invoke, break_from, continue_in, give_back, yield, claim, end, plain, choose, loop, local, field, arg};
+ghost use Rattle.wf_ast.specs.TypedTree.{plus, minus, shift_left, sat_plus, bits_or, less, at_least, greater, read, element, link, convert, length_of, asked, peek, slice, array, cut, absent, present, status, held, truth, flag, compare, same_status, junction, negation, closed, has_category, numeric, logical, state, elements, to_number, to_element, to_flag, to_status, to_slice, to_nothing, take_number, skip, write, skip_fast, write_fast, copy_to_writer, copy_to_slice, own, sub, assign, await, perform, invoke, break_from, continue_in, give_back, yield, claim, end, plain, choose, loop, local, field, arg};
 ghost use Rattle.wf_ast.specs.StatementOrder.{stand_in_order};
 ghost use Rattle.wf_ast.specs.WellTyped.{well_typed};
 ghost use Rattle.wf_named.specs.Examples.{at, counting};

@@ -11,9 +11,9 @@ use Rattle.wf_ast.specs.declared.typed_code.ExprNode.{ExprNode}
 use Rattle.wf_ast.specs.declared.typed_nodes.TypedNodes.{TypedNodes}
 use Rattle.wf_ast.specs.declared.types.Ty.{Ty}
 use Rattle.wf_ast.specs.declared.types.Ty.TheVariants as types
-use Rattle.wf_ast.specs.TypedTree.{Path, local, Arith, NumTree, read, link, SliceTree, slice, StatusTree, held, CondTree, flag, junction, Order, equal, differs, ValueTree, numeric, logical, state, elements}
+use Rattle.wf_ast.specs.TypedTree.{Path, local, Arith, NumTree, read, link, slice, held, CondTree, flag, junction, Order, equal, differs, ValueTree, numeric, logical, state, elements}
 use Rattle.wf_ast.specs.TypedTree as typed
-use Rattle.wf_ast.specs.TypedTrees.{Sort, arithmetic, joining, ordering, sort_of, num_in, cond_in, named, num_type, num_chain, cond_chain, comparison, chain_of, answer_of, made, made_or_number, no_place, tree_of, type_of_node, constant_of_node, place_of_node}
+use Rattle.wf_ast.specs.TypedTrees.{OperatorKind, arithmetic, joining, ordering, operator_kind, num_in, cond_in, named, num_type, num_chain, cond_chain, comparison, chain_of, answer_of, made, made_or_number, no_place, tree_of, type_of_node, constant_of_node, place_of_node}
 use Rattle.wf_ast.specs.TypedInvariant.{chain_fits, kind_fits, node_fits}
 use Rattle.wf_ast.proofs.Arena.{numbered_from_zero, tree_made}
 use Rattle.wf_types_rules.specs.declared.settings.Role.TheVariants as roles
@@ -93,7 +93,7 @@ module _ (nodes : TypedNodes) (look : ExprId → ValueTree) (at p : Place) (sign
   none_so : (t : ValueTree) → read_of t ≡ None → read_of t ≡ Some p → at ≡ p
   none_so t none h = let e : None ≡ Some p = sym none ∙ h in absurd (cc e)
 
-  chain_place : (ty : Ty) (sort : Sort) (es : List ExprId) → chain_fits nodes sort es ty ≡ true → read_of (chain_of at signs ty sort (map look es)) ≡ Some p → at ≡ p
+  chain_place : (ty : Ty) (sort : OperatorKind) (es : List ExprId) → chain_fits nodes sort es ty ≡ true → read_of (chain_of at signs ty sort (map look es)) ≡ Some p → at ≡ p
   chain_place ty (arithmetic op) (e ∷ f ∷ es) k h =
       none_so (chain_of at signs ty (arithmetic op) (map look (e ∷ f ∷ es))) (chain_none at op (num_type ty).bits (num_in (look e)) (look f) (map look es) signs) h
   chain_place ty (joining both) (e ∷ f ∷ es) k h =
@@ -112,7 +112,7 @@ module _ (nodes : TypedNodes) (look : ExprId → ValueTree) (at p : Place) (sign
   made_place ty (exprs.Arg x) k h = named_place at p ty _ h
   made_place ty (exprs.Index base index) k h = absurd (cc h)
   made_place ty (exprs.Cut base from end) k h = absurd (cc h)
-  made_place ty (exprs.Chain op parts) k h = chain_place ty (sort_of op) parts k h
+  made_place ty (exprs.Chain op parts) k h = chain_place ty (operator_kind op) parts k h
   made_place ty (exprs.Convert of kind) k h = absurd (cc h)
   made_place ty (exprs.Not of) k h = absurd (cc h)
   made_place ty (exprs.Base on sig) k h = none_so (answer_of at sig (look on)) (answer_none at sig (look on)) h

@@ -76,11 +76,11 @@ module _ (q : NamedParts) (nodes : TypedNodes) (texts : nodes.texts ≡ q.texts)
       ∙ ap (λ xs. typed_method (named_package q) n (made m) ∷ xs) (methods_same ms bodies (n + count_block (made m).body) h.1)
 
 -- The whole.
-abbrev tree : List ℕ → List (List ℕ) → List StructTree → List MethodTree → List ℕ → PackageTree
-tree name statuses structs methods order = record { package_name = name; statuses = statuses; structs = structs; methods = methods; order = order }
+abbrev tree : List ℕ → List (List ℕ) → List StructTree → List MethodTree → (order struct_order : List ℕ) → PackageTree
+tree name statuses structs methods order struct_order = record { package_name = name; statuses = statuses; structs = structs; methods = methods; order = order; struct_order = struct_order }
 
-tree_same : (a f : List ℕ) (b g : List (List ℕ)) (c h : List StructTree) (d i : List MethodTree) (e j : List ℕ) → a ≡ f → b ≡ g → c ≡ h → d ≡ i → e ≡ j → tree a b c d e ≡ tree f g h i j
-tree_same a f b g c h d i e j k l m n o = rw (k, l, m, n, o) refl
+tree_same : (a f : List ℕ) (b g : List (List ℕ)) (c h : List StructTree) (d i : List MethodTree) (e j s t : List ℕ) → a ≡ f → b ≡ g → c ≡ h → d ≡ i → e ≡ j → s ≡ t → tree a b c d e s ≡ tree f g h i j t
+tree_same a f b g c h d i e j s t k l m n o u = rw (k, l, m, n, o, u) refl
 
 nodes_same : (q : NamedParts) (nodes : TypedNodes) → nodes.texts ≡ q.texts → nodes.structs ≡ map (declared_struct q) q.structs → nodes.methods ≡ map (declared_method q) q.methods
     → AreBodies (named_package q) nodes 0 (map (method_made q.texts (exprs_of q) (stmts_of q)) q.methods) nodes.bodies
@@ -97,5 +97,5 @@ unfolding package_of typed_package named_package declared_nodes
 package_same q nodes h bodies =
     let parts = nodes_same q nodes (ap (λ (x : TypedNodes). x.texts) h) (ap (λ (x : TypedNodes). x.structs) h) (ap (λ (x : TypedNodes). x.methods) h) bodies in
     tree_same nodes.package q.package_name nodes.statuses (seen_statuses q) (map (struct_of nodes) nodes.structs) (map (typed_struct (named_package q)) (map (struct_made q.texts (exprs_of q)) q.structs))
-    (methods_of nodes nodes.methods nodes.bodies) (typed_methods (named_package q) 0 (map (method_made q.texts (exprs_of q) (stmts_of q)) q.methods)) nodes.order q.order
-    (ap (λ (x : TypedNodes). x.package) h) (ap (λ (x : TypedNodes). x.statuses) h) parts.0 parts.1 (ap (λ (x : TypedNodes). x.order) h)
+    (methods_of nodes nodes.methods nodes.bodies) (typed_methods (named_package q) 0 (map (method_made q.texts (exprs_of q) (stmts_of q)) q.methods)) nodes.order q.order nodes.struct_order q.struct_order
+    (ap (λ (x : TypedNodes). x.package) h) (ap (λ (x : TypedNodes). x.statuses) h) parts.0 parts.1 (ap (λ (x : TypedNodes). x.order) h) (ap (λ (x : TypedNodes). x.struct_order) h)

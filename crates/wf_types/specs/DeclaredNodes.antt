@@ -76,4 +76,5 @@ declared_nodes q =
       bodies = [];
       first_locals = [];
       order = q.order;
+      struct_order = q.struct_order;
     }

@@ -1,10 +1,10 @@
 // What a package declares, as the nodes of a typed package without expressions, statements and bodies.
 
-ghost use Rattle.std.specs.Prelude.{◌≡◌, IfOk};
+ghost use Rattle.std.specs.Prelude.{◌≡◌, [], IfOk};
 ghost use Rattle.wf_named.specs.NamedParts.{named_package};
 ghost use Rattle.wf_types_rules.specs.DeclaredTypes.{status_texts};
 ghost use Rattle.wf_types_decls.specs.Packages.{IsJudged};
-ghost use Rattle.wf_types.specs.DeclaredNodes.{seen_statuses as statuses_seen, declared_nodes};
+ghost use Rattle.wf_types.specs.DeclaredNodes.{declared_nodes};
 
 use crate::declared::{methods, structs};
 use crate::texts::{seen_statuses, texts_copied};
@@ -14,32 +14,34 @@ use wf_named::NamedNodes;
 use wf_text::faults::NoMemory;
 use wf_types_decls::Judged;
 
-// What a package has beside its structs, its methods and their bodies.
-#[derive(Drop)]
-struct Names {
-    package_name: Sequence<u8>,
-    statuses: Sequence<Sequence<u8>>,
-    texts: Sequence<Sequence<u8>>,
-    order: Sequence<u32>,
-}
-
-fn names_copied(
+// A package of this name with its texts and its orders, in which nothing is declared yet.
+fn nothing_declared(
     alloc: Global,
     nodes: &NamedNodes,
     statuses: &[Sequence<u8>],
-) -> Result<Names, NoMemory>
+) -> Result<TypedNodes, NoMemory>
     requires { statuses.now ≡ status_texts (named_package nodes.now) }
-    ensures { IfOk result (λ n. n ≡ record { package_name = nodes.now.package_name; statuses = statuses_seen nodes.now; texts = nodes.now.texts; order = nodes.now.order }) }
+    ensures { IfOk result (λ all. all ≡ record (declared_nodes nodes.now) { structs = []; methods = [] }) }
 {
-    let package_name = Sequence::from_slice(alloc, nodes.package_name())?;
+    let package = Sequence::from_slice(alloc, nodes.package_name())?;
     let statuses = seen_statuses(alloc, nodes, statuses)?;
     let texts = texts_copied(alloc, nodes)?;
     let order = Sequence::from_slice(alloc, nodes.order())?;
-    Ok(Names {
-        package_name,
+    let struct_order = Sequence::from_slice(alloc, nodes.struct_order())?;
+    Ok(TypedNodes {
+        package,
         statuses,
         texts,
+        exprs: Sequence::new(alloc),
+        types: Sequence::new(alloc),
+        constants: Sequence::new(alloc),
+        stmts: Sequence::new(alloc),
+        structs: Sequence::new(alloc),
+        methods: Sequence::new(alloc),
+        bodies: Sequence::new(alloc),
+        first_locals: Sequence::new(alloc),
         order,
+        struct_order,
     })
 }
 
@@ -52,21 +54,8 @@ pub(crate) fn declared(
     requires { IsJudged (named_package nodes.now) judged.now }
     ensures { IfOk result (λ all. all ≡ declared_nodes nodes.now) }
 {
-    let names = names_copied(alloc, nodes, judged.around.statuses.as_slice())?;
-    let structs = structs(alloc, nodes, judged.fields.as_slice())?;
-    let methods = methods(alloc, nodes, judged.heads.as_slice())?;
-    Ok(TypedNodes {
-        package: names.package_name,
-        statuses: names.statuses,
-        texts: names.texts,
-        exprs: Sequence::new(alloc),
-        types: Sequence::new(alloc),
-        constants: Sequence::new(alloc),
-        stmts: Sequence::new(alloc),
-        structs,
-        methods,
-        bodies: Sequence::new(alloc),
-        first_locals: Sequence::new(alloc),
-        order: names.order,
-    })
+    let mut all = nothing_declared(alloc, nodes, judged.around.statuses.as_slice())?;
+    all.structs = structs(alloc, nodes, judged.fields.as_slice())?;
+    all.methods = methods(alloc, nodes, judged.heads.as_slice())?;
+    Ok(all)
 }

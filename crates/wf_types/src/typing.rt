@@ -1,7 +1,7 @@
 // The typed tree of a resolved package, where the package breaks no rule of types and effects; else the first
 // refusal.
 
-ghost use Rattle.std.specs.Prelude.{◌≡◌, ◌&&◌, true, None, length, nat_lt, IfErr, IfOk};
+ghost use Rattle.std.specs.Prelude.{◌≡◌, ◌&&◌, true, None, IfErr, IfOk};
 ghost use Rattle.wf_ast.specs.StatementOrder.{stand_in_order};
 ghost use Rattle.wf_ast.specs.TypedInvariant.{IsTyped};
 ghost use Rattle.wf_ast.specs.TypedPackage.{package_of};
@@ -82,8 +82,8 @@ fn typed(alloc: Global, named: &NamedNodes, judged: Judged) -> Result<Typed, NoM
     }
 }
 
-/// Gives the types of a package. `Refused` where it breaks rules of types and effects, T1 to T5 and E1 to E5: of all that it
-/// breaks by what has the least place, and of one place by the rule that is named first. `Memory` where memory was refused,
+/// Gives the types of a package. `Refused` where it breaks rules of types and effects, T1 to T5 and E1 to E5: by the
+/// first refusal of all that it breaks. `Memory` where memory was refused,
 /// or more is counted than there are numbers for. What the typed package declares has the names, the places and the types of the
 /// resolved one. Beside the expressions in bodies, it has one for each local of each method: its path, at the place of its name.
 /// What holds of every typed package is told of it too, for the phases after this one.

@@ -19,7 +19,7 @@ use Rattle.wf_types_rules.specs.Meanings.{constant_number}
 use Rattle.wf_types_rules.specs.Judgements.{at_if, value_of, two_questions, is_status_text}
 use Rattle.wf_types_rules.specs.Parts.{Part, Site, constant_declared, status_declared, declared_parts, expr_parts, at_sites, const_sites}
 use Rattle.wf_types_rules.specs.FirstBreak.{refusals_at, refusals_of}
-use Rattle.wf_types_rules.specs.declared.meanings.Value.{Value}
+use Rattle.wf_types_rules.specs.declared.meanings.PlacedMeaning.{PlacedMeaning}
 use Rattle.wf_types_exprs.specs.Judged.{judged}
 use Rattle.wf_types_exprs.proofs.JudgedLaws.{judged-append, judged-last}
 use Rattle.wf_types_exprs.proofs.ListLemmas.{drop-one}
@@ -58,7 +58,7 @@ constant_alone : (s : Setting) (found : Option Refusal) (c : ConstTree) → cons
 unfolding judged
 constant_alone s found c = refl
 
-pub constant_judged : (s : Setting) (found first before : Option Refusal) (c : ConstTree) (ty : Option Ty) (v : Value) → ty ≡ declared s roles.Const c.of → v ≡ value_of s c.value
+pub constant_judged : (s : Setting) (found first before : Option Refusal) (c : ConstTree) (ty : Option Ty) (v : PlacedMeaning) → ty ≡ declared s roles.Const c.of → v ≡ value_of s c.value
     → first ≡ judged s found (declared_parts roles.Const c.of) → before ≡ judged s first (expr_parts c.value)
     → constant_found ty v before ≡ judged s found (constant_declared c ∷ (declared_parts roles.Const c.of ++ expr_parts c.value))
 constant_judged s found first before c ty v type value e f =
@@ -66,10 +66,10 @@ constant_judged s found first before c ty v type value e f =
     ∙ ap (λ b. judged s b (constant_declared c ∷ [])) (f ∙ ap (λ b. judged s b (expr_parts c.value)) e ∙ sym (judged-append s found (declared_parts roles.Const c.of) (expr_parts c.value)))
     ∙ judged-last s found (constant_declared c) (declared_parts roles.Const c.of ++ expr_parts c.value)
 
-pub constant_known : (s : Setting) (c : ConstTree) (ty : Option Ty) (v : Value) (of : Option Constant) → of ≡ constant_with ty (option_and_then constant_number v.of) → ty ≡ declared s roles.Const c.of
+pub constant_known : (s : Setting) (c : ConstTree) (ty : Option Ty) (v : PlacedMeaning) (of : Option Constant) → of ≡ constant_with ty (option_and_then constant_number v.of) → ty ≡ declared s roles.Const c.of
     → v ≡ value_of s c.value → (known : List (Option Constant)) → s ≡ among_constants known → of ≡ constant_made known c
 constant_known s c ty v of e type value known k =
-    e ∙ ap (λ t. constant_with t (option_and_then constant_number v.of)) type ∙ ap (λ (w : Value). constant_with (declared s roles.Const c.of) (option_and_then constant_number w.of)) value
+    e ∙ ap (λ t. constant_with t (option_and_then constant_number v.of)) type ∙ ap (λ (w : PlacedMeaning). constant_with (declared s roles.Const c.of) (option_and_then constant_number w.of)) value
     ∙ ap (λ r. constant_with (declared r roles.Const c.of) (number_of r c.value)) k
 
 pub constants_with : (known : List (Option Constant)) (c : ConstTree) (s t : Setting) (of : Option Constant) → t ≡ record s { constants = s.constants ++ of ∷ [] } → s ≡ among_constants known

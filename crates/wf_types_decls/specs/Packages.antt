@@ -6,7 +6,7 @@ use Rattle.wf_text.specs.declared.rules.Rule.TheVariants.{T1, T5}
 use Rattle.wf_text.specs.Precedence.{sooner, soonest, Decides, told}
 use Rattle.wf_ast.specs.declared.types.Ty.{Ty}
 use Rattle.wf_named.specs.NamedTree.{NamedMethodTree, NamedPackageTree}
-use Rattle.wf_types_rules.specs.declared.meanings.Value.{Value}
+use Rattle.wf_types_rules.specs.declared.meanings.PlacedMeaning.{PlacedMeaning}
 use Rattle.wf_types_rules.specs.declared.settings.Role.TheVariants as roles
 use Rattle.wf_types_rules.specs.declared.settings.Setting.{Setting}
 use Rattle.wf_types_rules.specs.DeclaredTypes.{constants_of, types_in, result_in, method_type, status_texts, in_method}
@@ -58,7 +58,7 @@ types_or_none None = []
 types_or_none (Some types) = types
 
 -- What the value of a constant of this type breaks.
-abbrev pub constant_found : Option Ty → Value → Option Refusal → Option Refusal
+abbrev pub constant_found : Option Ty → PlacedMeaning → Option Refusal → Option Refusal
 constant_found ty v found = sooner (sooner found (told T1 (no_constant v))) (told T5 (lies_outside ty v))
 
 -- Two `?` in a row, of byte 63, where the byte before it is one or isn't.

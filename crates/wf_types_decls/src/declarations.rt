@@ -29,7 +29,7 @@ use wf_types_meanings::places::at_if;
 use wf_types_meanings::types::{constant_with, lies_in};
 use wf_types_meanings::values::number_in;
 use wf_types_operators::meanings::is_constant;
-use wf_types_rules::{Constant, Role, Setting, Value};
+use wf_types_rules::{Constant, PlacedMeaning, Role, Setting};
 
 const BASE_STATUSES: [&str; 10] = [
     "",
@@ -44,7 +44,7 @@ const BASE_STATUSES: [&str; 10] = [
     "#base: cannot return a suspension",
 ];
 
-fn value_no_number(v: Value) -> Option<Place>
+fn value_no_number(v: PlacedMeaning) -> Option<Place>
     ensures { result ≡ no_constant v }
 {
     at_if(!is_constant(v.of?), v.at)
@@ -61,14 +61,14 @@ fn lies_outside(ty: Option<Ty>, n: Option<u64>) -> bool
     }
 }
 
-fn value_outside(ty: Option<Ty>, v: Value) -> Option<Place>
+fn value_outside(ty: Option<Ty>, v: PlacedMeaning) -> Option<Place>
     ensures { result ≡ value_lies_outside ty v }
 {
     at_if(lies_outside(ty, number_in(v.of)), v.at)
 }
 
 /// Tells what the value of a constant of this type breaks.
-pub(crate) fn tell_constant(found: &mut Found, ty: Option<Ty>, v: Value)
+pub(crate) fn tell_constant(found: &mut Found, ty: Option<Ty>, v: PlacedMeaning)
     ensures { found.new ≡ constant_found ty v found.old }
 {
     found.tell(Rule::T1, value_no_number(v));

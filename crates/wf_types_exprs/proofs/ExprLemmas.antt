@@ -8,12 +8,12 @@ use Rattle.wf_base.specs.declared.marks.Mark.{Mark}
 use Rattle.wf_base.specs.declared.widths.Width.{Width}
 use Rattle.wf_ast.specs.declared.operators.Op.{Op}
 use Rattle.wf_ast.specs.declared.types.Ty.{Ty}
-use Rattle.wf_ast.specs.TypedTrees.{sort_of}
+use Rattle.wf_ast.specs.TypedTrees.{operator_kind}
 use Rattle.wf_named.specs.declared.nodes.NamedCallee.{NamedCallee}
 use Rattle.wf_named.specs.declared.nodes.NamedPath.{NamedPath}
 use Rattle.wf_named.specs.NamedTree.{NamedExprTree, number, status, truth, path, index, slice, chain, convert, negation, NamedPartTree, NamedLinkTrees, NamedArgTrees, NamedCallTree, call, NamedTypeTree}
 use Rattle.wf_types_rules.specs.declared.meanings.Operand.{Operand}
-use Rattle.wf_types_rules.specs.declared.meanings.Value.{Value}
+use Rattle.wf_types_rules.specs.declared.meanings.PlacedMeaning.{PlacedMeaning}
 use Rattle.wf_types_rules.specs.declared.settings.Role.TheVariants as roles
 use Rattle.wf_types_rules.specs.declared.settings.Setting.{Setting}
 use Rattle.wf_types_rules.specs.ExprTypes.{plain_width, operands}
@@ -43,14 +43,14 @@ unfolding judged
 path_found s found p = refl
 
 -- An element.
-pub index_found : (s : Setting) (found before : Option Refusal) (base : NamedPath) (i : NamedExprTree) (at : Place) (b v : Value) → b ≡ base_value s base → v ≡ value_of s i
+pub index_found : (s : Setting) (found before : Option Refusal) (base : NamedPath) (i : NamedExprTree) (at : Place) (b v : PlacedMeaning) → b ≡ base_value s base → v ≡ value_of s i
     → before ≡ judged s found (expr_parts i) → sooner before (told T1 (no_index b v)) ≡ judged s found (expr_parts (index base i at))
 unfolding judged
 index_found s found before base i at b v same value e =
     rw (same, value) (ap (λ f. judged s f (expression (index base i at) ∷ [])) e ∙ judged-last s found (expression (index base i at)) (expr_parts i))
 
 -- A slice.
-pub slice_found : (s : Setting) (found before : Option Refusal) (base : NamedPath) (from to : NamedPartTree) (at : Place) (b : Value) (m n : Option Value) → b ≡ base_value s base
+pub slice_found : (s : Setting) (found before : Option Refusal) (base : NamedPath) (from to : NamedPartTree) (at : Place) (b : PlacedMeaning) (m n : Option PlacedMeaning) → b ≡ base_value s base
     → m ≡ end_value s from → n ≡ end_value s to → before ≡ judged s found (end_parts from ++ end_parts to)
     → sooner before (told T1 (no_slice b m n)) ≡ judged s found (expr_parts (slice base from to at))
 unfolding judged
@@ -60,20 +60,20 @@ slice_found s found before base from to at b m n same first last e =
 
 -- A chain.
 pub chain_judged : (s : Setting) (found before : Option Refusal) (op : Op) (first : NamedExprTree) (links : NamedLinkTrees) (at : Place) (os : Option (List Operand))
-    → os ≡ operands s first links → before ≡ judged s found (expr_parts first ++ links_parts links) → chain_found (sort_of op) os at before ≡ judged s found (expr_parts (chain op first links at))
+    → os ≡ operands s first links → before ≡ judged s found (expr_parts first ++ links_parts links) → chain_found (operator_kind op) os at before ≡ judged s found (expr_parts (chain op first links at))
 unfolding judged
 chain_judged s found before op first links at os same e =
     rw same (ap (λ f. judged s f (expression (chain op first links at) ∷ [])) e ∙ judged-last s found (expression (chain op first links at)) (expr_parts first ++ links_parts links))
 
 -- A conversion.
-pub conversion_judged : (s : Setting) (found before : Option Refusal) (e : NamedExprTree) (t : NamedTypeTree) (at : Place) (v : Value) (plain : Option Width) → v ≡ value_of s e → plain ≡ plain_width t
+pub conversion_judged : (s : Setting) (found before : Option Refusal) (e : NamedExprTree) (t : NamedTypeTree) (at : Place) (v : PlacedMeaning) (plain : Option Width) → v ≡ value_of s e → plain ≡ plain_width t
     → before ≡ judged s found (placed_type roles.Conversion t ∷ (expr_parts e ++ type_parts t)) → conversion_found v plain at before ≡ judged s found (expr_parts (convert e t at))
 unfolding judged
 conversion_judged s found before e t at v plain value width h =
     rw (value, width) (ap (λ f. judged s f (expression (convert e t at) ∷ [])) h ∙ judged-last s found (expression (convert e t at)) (placed_type roles.Conversion t ∷ (expr_parts e ++ type_parts t)))
 
 -- A `not`.
-pub negation_found : (s : Setting) (found before : Option Refusal) (e : NamedExprTree) (at : Place) (v : Value) → v ≡ value_of s e → before ≡ judged s found (expr_parts e)
+pub negation_found : (s : Setting) (found before : Option Refusal) (e : NamedExprTree) (at : Place) (v : PlacedMeaning) → v ≡ value_of s e → before ≡ judged s found (expr_parts e)
     → sooner before (told T1 (no_flag v)) ≡ judged s found (expr_parts (negation e at))
 unfolding judged
 negation_found s found before e at v value h =
@@ -99,7 +99,7 @@ unfolding judged
 argument_judged s found before callee n e h =
     ap (λ f. judged s f (argument callee n e ∷ [])) h ∙ judged-last s found (argument callee n e) (expr_parts e)
 
-pub argument_behind : (s : Setting) (found before : Option Refusal) (callee : NamedCallee) (n : ℕ) (e : NamedExprTree) (ty : Option Ty) (v : Value) → path_in e ≡ None → ty ≡ wanted s callee n
+pub argument_behind : (s : Setting) (found before : Option Refusal) (callee : NamedCallee) (n : ℕ) (e : NamedExprTree) (ty : Option Ty) (v : PlacedMeaning) → path_in e ≡ None → ty ≡ wanted s callee n
     → v ≡ value_of s e → before ≡ judged s found (expr_parts e) → argument_found ty v before ≡ judged s found (argument_parts callee n e)
 argument_behind s found before callee n e ty v none type value h =
     ap (λ t. argument_found t v before) type ∙ ap (λ w. argument_found (wanted s callee n) w before) (value ∙ value_of_argument s e none)
@@ -111,13 +111,13 @@ argument_alone : (s : Setting) (found : Option Refusal) (callee : NamedCallee) (
 unfolding judged
 argument_alone s found callee n p = refl
 
-pub path_handed : (s : Setting) (found : Option Refusal) (callee : NamedCallee) (n : ℕ) (e : NamedExprTree) (p : NamedPath) (ty : Option Ty) (v : Value) → path_in e ≡ Some p → ty ≡ wanted s callee n
+pub path_handed : (s : Setting) (found : Option Refusal) (callee : NamedCallee) (n : ℕ) (e : NamedExprTree) (p : NamedPath) (ty : Option Ty) (v : PlacedMeaning) → path_in e ≡ Some p → ty ≡ wanted s callee n
     → v ≡ base_value s p → argument_found ty v found ≡ judged s found (argument_parts callee n e)
 path_handed s found callee n e p ty v some type value =
     ap (λ t. argument_found t v found) type ∙ ap (λ w. argument_found (wanted s callee n) w found) value ∙ argument_alone s found callee n p
     ∙ sym (ap (λ x. judged s found (argument_parts callee n x)) (path_of_expr e p some))
 
-pub argument_fits : (s : Setting) (callee : NamedCallee) (n : ℕ) (e : NamedExprTree) (ty : Option Ty) (v : Value) → path_in e ≡ None → ty ≡ wanted s callee n → v ≡ value_of s e
+pub argument_fits : (s : Setting) (callee : NamedCallee) (n : ℕ) (e : NamedExprTree) (ty : Option Ty) (v : PlacedMeaning) → path_in e ≡ None → ty ≡ wanted s callee n → v ≡ value_of s e
     → is_argument ty v.of ≡ is_argument (wanted s callee n) (meaning_of_argument s e)
 argument_fits s callee n e ty v none type value =
-    ap (λ t. is_argument t v.of) type ∙ ap (λ (w : Value). is_argument (wanted s callee n) w.of) (value ∙ value_of_argument s e none)
+    ap (λ t. is_argument t v.of) type ∙ ap (λ (w : PlacedMeaning). is_argument (wanted s callee n) w.of) (value ∙ value_of_argument s e none)

@@ -6,13 +6,13 @@ use Rattle.wf_text.specs.declared.rules.Rule.TheVariants.{T1, T5, E1, E2, E3}
 use Rattle.wf_text.specs.Precedence.{sooner, told}
 use Rattle.wf_base.specs.declared.widths.Width.{Width}
 use Rattle.wf_ast.specs.declared.types.Ty.{Ty}
-use Rattle.wf_ast.specs.TypedTrees.{Sort}
+use Rattle.wf_ast.specs.TypedTrees.{OperatorKind}
 use Rattle.wf_named.specs.declared.nodes.BaseType.{BaseType}
 use Rattle.wf_named.specs.declared.nodes.BaseType.TheVariants as bases
 use Rattle.wf_named.specs.NamedTree.{NamedCallTree}
 use Rattle.wf_types_rules.specs.declared.meanings.Bound.{Bound}
 use Rattle.wf_types_rules.specs.declared.meanings.Operand.{Operand}
-use Rattle.wf_types_rules.specs.declared.meanings.Value.{Value}
+use Rattle.wf_types_rules.specs.declared.meanings.PlacedMeaning.{PlacedMeaning}
 use Rattle.wf_types_rules.specs.declared.settings.Form.{Form}
 use Rattle.wf_types_rules.specs.declared.settings.Role.{Role}
 use Rattle.wf_types_rules.specs.declared.settings.Setting.{Setting}
@@ -23,21 +23,21 @@ use Rattle.wf_types_rules.specs.Judgements.{at_if, fails, meets, no_number, is_c
 use Rattle.wf_types_rules.specs.Parts.{calling}
 
 -- A type, where an end of a slice is absent or a number.
-abbrev pub end_kept : Option Value → Option Ty → Option Ty
+abbrev pub end_kept : Option PlacedMeaning → Option Ty → Option Ty
 end_kept None ty = ty
 end_kept (Some v) ty = if_number v.of ty
 
 -- A chain of operands.
-abbrev pub chain_found : Sort → Option (List Operand) → Place → Option Refusal → Option Refusal
+abbrev pub chain_found : OperatorKind → Option (List Operand) → Place → Option Refusal → Option Refusal
 chain_found sort os at found =
     sooner (sooner (sooner found (told T1 (option_and_then (not_taken sort) os))) (told T5 (at_if (meets (has_no_value sort) os) at))) (told T5 (option_and_then (not_fitting sort) os))
 
 -- A conversion: a constant that the width cuts.
-abbrev pub conversion_found : Value → Option Width → Place → Option Refusal → Option Refusal
+abbrev pub conversion_found : PlacedMeaning → Option Width → Place → Option Refusal → Option Refusal
 conversion_found v width at found = sooner (sooner found (told T1 (no_number v))) (told T5 (at_if (is_cut v.of width) at))
 
 -- An argument, where this type is wanted.
-abbrev pub argument_found : Option Ty → Value → Option Refusal → Option Refusal
+abbrev pub argument_found : Option Ty → PlacedMeaning → Option Refusal → Option Refusal
 argument_found ty v found = sooner found (told T1 (not_handed ty v))
 
 -- A call, by its mark.

@@ -8,7 +8,7 @@ use Rattle.wf_named.specs.declared.nodes.NamedCallee.{NamedCallee}
 use Rattle.wf_named.specs.NamedTree.{NamedExprTree, path, NamedTypeTree}
 use Rattle.wf_types_rules.specs.declared.meanings.Meaning.{Meaning}
 use Rattle.wf_types_rules.specs.declared.meanings.Operand.{Operand}
-use Rattle.wf_types_rules.specs.declared.meanings.Value.{Value}
+use Rattle.wf_types_rules.specs.declared.meanings.PlacedMeaning.{PlacedMeaning}
 use Rattle.wf_types_rules.specs.declared.settings.Setting.{Setting}
 use Rattle.wf_types_rules.specs.ExprTypes.{plain_width, written}
 use Rattle.wf_types_rules.specs.DeclaredTypes.{first_token}
@@ -31,7 +31,7 @@ abbrev pub operand_pushed : List Operand → Place → Option Meaning → Option
 operand_pushed os at (Some m) = Some (os ++ record { at = at; of = m } ∷ [])
 operand_pushed os at None = None
 
-abbrev pub operand_behind : Option (List Operand) → Value → Option (List Operand)
+abbrev pub operand_behind : Option (List Operand) → PlacedMeaning → Option (List Operand)
 operand_behind (Some os) v = operand_pushed os v.at v.of
 operand_behind None v = None
 

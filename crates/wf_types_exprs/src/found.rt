@@ -3,19 +3,19 @@
 use wf_ast::Ty;
 use wf_base::Width;
 use wf_text::Place;
-use wf_types_rules::{Form, Value};
+use wf_types_rules::{Form, PlacedMeaning};
 
 /// The two ends of a slice: what each means that is there.
 #[derive(Clone, Copy, PartialEq, Eq)]
 pub(crate) struct Ends {
-    pub from: Option<Value>,
-    pub to: Option<Value>,
+    pub from: Option<PlacedMeaning>,
+    pub to: Option<PlacedMeaning>,
 }
 
 /// The operand of an `as`, and the width of its type.
 #[derive(Clone, Copy, PartialEq, Eq)]
 pub(crate) struct Conversion {
-    pub value: Value,
+    pub value: PlacedMeaning,
     pub plain: Option<Width>,
 }
 

@@ -9,7 +9,7 @@ use wf_ast::Sequence;
 use wf_text::faults::NoMemory;
 use wf_types_meanings::values::number_in;
 use wf_types_operators::meanings::is_constant;
-use wf_types_rules::{Bound, Meaning, Operand, Value};
+use wf_types_rules::{Bound, Meaning, Operand, PlacedMeaning};
 
 fn pushed(mut os: Sequence<Operand>, o: Operand) -> Result<Sequence<Operand>, NoMemory>
     ensures { IfOk result (λ all. all ≡ os ++ o ∷ []) }
@@ -21,7 +21,7 @@ fn pushed(mut os: Sequence<Operand>, o: Operand) -> Result<Sequence<Operand>, No
 /// An operand after others, where each means something.
 pub fn operand_behind(
     os: Option<Sequence<Operand>>,
-    v: Value,
+    v: PlacedMeaning,
 ) -> Result<Option<Sequence<Operand>>, NoMemory>
     ensures { IfOk result (λ all. all ≡ behind os v) }
 {
@@ -51,7 +51,7 @@ fn is_not_constant(of: Option<Meaning>) -> bool
 }
 
 /// What has to be a constant number, by whether it names anything but constants, and what it means.
-pub(crate) fn bound(others: bool, v: Value) -> Bound
+pub(crate) fn bound(others: bool, v: PlacedMeaning) -> Bound
     ensures { result ≡ record { unfit = others || fails means_constant v.of; number = option_and_then number_meant v.of; at = v.at } }
 {
     Bound {

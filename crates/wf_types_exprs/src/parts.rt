@@ -1,7 +1,7 @@
 // What each kind of expression breaks and means, by what its parts mean.
 
 ghost use Rattle.std.specs.Prelude.{◌≡◌, ◌&&◌, ◌||◌, Some, None, if◌then◌else◌, option_map, option_and_then};
-ghost use Rattle.wf_ast.specs.TypedTrees.{sort_of};
+ghost use Rattle.wf_ast.specs.TypedTrees.{operator_kind};
 ghost use Rattle.wf_named.specs.NamedTree as tree;
 ghost use Rattle.wf_types_rules.specs.declared.meanings.Meaning.TheVariants as meanings;
 ghost use Rattle.wf_types_rules.specs.Meanings.{is_flag as means_flag};
@@ -9,7 +9,7 @@ ghost use Rattle.wf_types_rules.specs.Operands.{meaning_of_operator as operator_
 ghost use Rattle.wf_types_rules.specs.ExprTypes.{only_where, meaning, element_of, slice_in, if_number as only_for_number, converted as converts, answer_inside};
 ghost use Rattle.wf_named.specs.NamedTrees.{call_at};
 ghost use Rattle.wf_types_rules.specs.Judgements as judgements;
-ghost use Rattle.wf_types_rules.specs.Judgements.{at_if as at_place_if, fails, both_fail, meets, takes as takes_value, may_be_handed as may_hand, is_argument as fits_argument, answer_type as type_answered};
+ghost use Rattle.wf_types_rules.specs.Judgements.{at_if as at_place_if, fails, both_fail, takes as takes_value, may_be_handed as may_hand, is_argument as fits_argument, answer_type as type_answered};
 ghost use Rattle.wf_types_rules.specs.Parts as parts;
 ghost use Rattle.wf_text.specs.Precedence.{told as told_by};
 ghost use Rattle.wf_text.specs.Precedence.{sooner as sooner_of};
@@ -35,21 +35,21 @@ use wf_types_operators::fitting::not_fitting;
 use wf_types_operators::given::{has_no_value, meaning_of_operator};
 use wf_types_operators::meanings::{greatest, is_flag, is_number, is_value};
 use wf_types_operators::taken::not_taken;
-use wf_types_rules::{Around, Meaning, Operand, Value};
+use wf_types_rules::{Around, Meaning, Operand, PlacedMeaning};
 
-fn wrong_number(v: Value) -> Option<Place>
+fn wrong_number(v: PlacedMeaning) -> Option<Place>
     ensures { result ≡ judgements.no_number v }
 {
     at_if(!is_number(v.of?), v.at)
 }
 
-fn wrong_operand_in_negation(v: Value) -> Option<Place>
+fn wrong_operand_in_negation(v: PlacedMeaning) -> Option<Place>
     ensures { result ≡ judgements.no_flag v }
 {
     at_if(!is_flag(v.of?), v.at)
 }
 
-fn wrong_operand_in_path(v: Value) -> Option<Place>
+fn wrong_operand_in_path(v: PlacedMeaning) -> Option<Place>
     ensures { result ≡ judgements.no_value v }
 {
     at_if(!is_value(v.of?), v.at)
@@ -65,22 +65,22 @@ pub(crate) fn judged_path(
     ensures of { result ≡ meaning around.now (tree.path path) }
 {
     let of = variable(around, path.of);
-    let v = Value { of, at: path.at };
+    let v = PlacedMeaning { of, at: path.at };
     found.tell(Rule::T1, wrong_operand_in_path(v));
     as_value(of)
 }
 
 /// What a path means, with its place.
-pub fn base_value(around: &Around<'_>, path: NamedPath) -> Value
+pub fn base_value(around: &Around<'_>, path: NamedPath) -> PlacedMeaning
     ensures { result ≡ judgements.base_value around.now path }
 {
-    Value {
+    PlacedMeaning {
         of: variable(around, path.of),
         at: path.at,
     }
 }
 
-fn wrong_operand_in_index(base: Value, index: Value) -> Option<Place>
+fn wrong_operand_in_index(base: PlacedMeaning, index: PlacedMeaning) -> Option<Place>
     ensures { result ≡ judgements.no_index base index }
 {
     let m = base.of?;
@@ -99,7 +99,7 @@ pub fn index_meaning(base: Option<Meaning>, index: Option<Meaning>) -> Option<Me
 }
 
 /// An element of what a path stands for.
-pub fn judged_index(found: &mut Found, base: Value, index: Value) -> Option<Meaning>
+pub fn judged_index(found: &mut Found, base: PlacedMeaning, index: PlacedMeaning) -> Option<Meaning>
     ensures found { found.new ≡ sooner_of found.old (told_by rules.T1 (judgements.no_index base index)) }
     ensures of { result ≡ option_map meanings.Typed (only_for_number index.of (option_and_then element_of base.of)) }
 {
@@ -107,13 +107,13 @@ pub fn judged_index(found: &mut Found, base: Value, index: Value) -> Option<Mean
     index_meaning(base.of, index.of)
 }
 
-fn wrong_end(end: Option<Value>) -> Option<Place>
+fn wrong_end(end: Option<PlacedMeaning>) -> Option<Place>
     ensures { result ≡ judgements.no_end end }
 {
     wrong_number(end?)
 }
 
-fn is_known(end: Option<Value>) -> bool
+fn is_known(end: Option<PlacedMeaning>) -> bool
     ensures { result ≡ judgements.is_known end }
 {
     match end {
@@ -122,7 +122,7 @@ fn is_known(end: Option<Value>) -> bool
     }
 }
 
-fn if_end(end: Option<Value>, ty: Option<Ty>) -> Option<Ty>
+fn if_end(end: Option<PlacedMeaning>, ty: Option<Ty>) -> Option<Ty>
     ensures { result ≡ end_kept end ty }
 {
     match end {
@@ -131,13 +131,17 @@ fn if_end(end: Option<Value>, ty: Option<Ty>) -> Option<Ty>
     }
 }
 
-fn both_known(from: Option<Value>, to: Option<Value>) -> bool
+fn both_known(from: Option<PlacedMeaning>, to: Option<PlacedMeaning>) -> bool
     ensures { result ≡ (judgements.is_known from && judgements.is_known to) }
 {
     is_known(from) && is_known(to)
 }
 
-fn wrong_operand_in_slice(base: Value, from: Option<Value>, to: Option<Value>) -> Option<Place>
+fn wrong_operand_in_slice(
+    base: PlacedMeaning,
+    from: Option<PlacedMeaning>,
+    to: Option<PlacedMeaning>,
+) -> Option<Place>
     ensures { result ≡ judgements.no_slice base from to }
 {
     let m = base.of?;
@@ -154,8 +158,8 @@ fn wrong_operand_in_slice(base: Value, from: Option<Value>, to: Option<Value>) -
 /// What a slice of what a path stands for means, by what the path and the ends mean.
 pub fn slice_meaning(
     base: Option<Meaning>,
-    from: Option<Value>,
-    to: Option<Value>,
+    from: Option<PlacedMeaning>,
+    to: Option<PlacedMeaning>,
 ) -> Option<Meaning>
     ensures { result ≡ option_map meanings.Typed (end_kept from (end_kept to (option_and_then slice_in base))) }
 {
@@ -163,7 +167,7 @@ pub fn slice_meaning(
 }
 
 /// A slice of what a path stands for, by its ends.
-pub(crate) fn judged_slice(found: &mut Found, base: Value, ends: Ends) -> Option<Meaning>
+pub(crate) fn judged_slice(found: &mut Found, base: PlacedMeaning, ends: Ends) -> Option<Meaning>
     ensures found { found.new ≡ sooner_of found.old (told_by rules.T1 (judgements.no_slice base ends.from ends.to)) }
     ensures of { result ≡ option_map meanings.Typed (end_kept ends.from (end_kept ends.to (option_and_then slice_in base.of))) }
 {
@@ -172,35 +176,33 @@ pub(crate) fn judged_slice(found: &mut Found, base: Value, ends: Ends) -> Option
 }
 
 fn wrong_operand_in_chain(op: Op, os: &[Operand]) -> Option<Place>
-    ensures { result ≡ first_untaken (sort_of op) os.now }
+    ensures { result ≡ first_untaken (operator_kind op) os.now }
 {
     not_taken(op, os)
 }
 
 fn node_without_value_in_chain(op: Op, os: &[Operand], at: Place) -> Option<Place>
-    ensures { result ≡ at_place_if (lacks_value (sort_of op) os.now) at }
+    ensures { result ≡ at_place_if (lacks_value (operator_kind op) os.now) at }
 {
     at_if(has_no_value(op, os), at)
 }
 
 fn unfit_operand(op: Op, os: &[Operand]) -> Option<Place>
-    ensures { result ≡ first_unfit (sort_of op) os.now }
+    ensures { result ≡ first_unfit (operator_kind op) os.now }
 {
     not_fitting(op, os)
 }
 
 /// What a chain means, where each of its operands means something.
 pub fn chain_meaning(op: Op, operands: &Option<Sequence<Operand>>) -> Option<Meaning>
-    ensures { result ≡ option_and_then (operator_means (sort_of op)) operands.now }
+    ensures { result ≡ option_and_then (operator_means (operator_kind op)) operands.now }
 {
-    match operands {
-        Some(os) => meaning_of_operator(op, os.as_slice()),
-        None => None,
-    }
+    let operands = operands.as_ref()?;
+    meaning_of_operator(op, operands.as_slice())
 }
 
 fn tell_chain(found: &mut Found, op: Op, os: &[Operand], at: Place)
-    ensures { found.new ≡ chain_found (sort_of op) (Some os.now) at found.old }
+    ensures { found.new ≡ chain_found (operator_kind op) (Some os.now) at found.old }
 {
     found.tell(Rule::T1, wrong_operand_in_chain(op, os));
     found.tell(Rule::T5, node_without_value_in_chain(op, os, at));
@@ -214,8 +216,8 @@ pub(crate) fn judged_chain(
     op: Op,
     at: Place,
 ) -> Option<Meaning>
-    ensures found { found.new ≡ chain_found (sort_of op) operands.now at found.old }
-    ensures of { result ≡ option_and_then (operator_means (sort_of op)) operands.now }
+    ensures found { found.new ≡ chain_found (operator_kind op) operands.now at found.old }
+    ensures of { result ≡ option_and_then (operator_means (operator_kind op)) operands.now }
 {
     if let Some(os) = operands {
         tell_chain(found, op, os.as_slice(), at);
@@ -232,13 +234,17 @@ fn is_cut(of: Option<Meaning>, width: Option<Width>) -> bool
     }
 }
 
-fn wrong_operand_in_conversion(v: Value) -> Option<Place>
+fn wrong_operand_in_conversion(v: PlacedMeaning) -> Option<Place>
     ensures { result ≡ judgements.no_number v }
 {
     wrong_number(v)
 }
 
-fn node_without_value_in_conversion(v: Value, width: Option<Width>, at: Place) -> Option<Place>
+fn node_without_value_in_conversion(
+    v: PlacedMeaning,
+    width: Option<Width>,
+    at: Place,
+) -> Option<Place>
     ensures { result ≡ at_place_if (judgements.is_cut v.of width) at }
 {
     at_if(is_cut(v.of, width), at)
@@ -258,7 +264,7 @@ pub(crate) fn judged_conversion(found: &mut Found, of: Conversion, at: Place) ->
 }
 
 /// A `not`.
-pub(crate) fn judged_negation(found: &mut Found, v: Value) -> Option<Meaning>
+pub(crate) fn judged_negation(found: &mut Found, v: PlacedMeaning) -> Option<Meaning>
     ensures found { found.new ≡ sooner_of found.old (told_by rules.T1 (judgements.no_flag v)) }
     ensures of { result ≡ option_and_then (only_where means_flag) v.of }
 {
@@ -278,14 +284,14 @@ fn is_wrong_argument(ty: Option<Ty>, of: Option<Meaning>) -> bool
     }
 }
 
-fn wrong_argument(ty: Option<Ty>, v: Value) -> Option<Place>
+fn wrong_argument(ty: Option<Ty>, v: PlacedMeaning) -> Option<Place>
     ensures { result ≡ judgements.not_handed ty v }
 {
     at_if(is_wrong_argument(ty, v.of), v.at)
 }
 
 /// Whether an argument fits the type that is wanted of it.
-pub(crate) fn judged_argument(found: &mut Found, ty: Option<Ty>, v: Value) -> bool
+pub(crate) fn judged_argument(found: &mut Found, ty: Option<Ty>, v: PlacedMeaning) -> bool
     ensures found { found.new ≡ argument_found ty v found.old }
     ensures fit { result ≡ fits_argument ty v.of }
 {

@@ -1,7 +1,7 @@
 // The walk over expressions, types and calls: the first refusal of what was found before and of all that the rules say of
 // their parts, and what they mean. Parts come before their whole.
 
-ghost use Rattle.std.specs.Prelude.{◌≡◌, ◌<◌, ◌∷◌, ◌++◌, Some, [], length, IfOk, OnOk};
+ghost use Rattle.std.specs.Prelude.{◌≡◌, ◌<◌, ◌∷◌, ◌++◌, Some, length, IfOk, OnOk};
 ghost use Rattle.std.specs.List.{AllByRecursion};
 ghost use Rattle.wf_ast.specs.ParsedParts.{IsBelow, LinksBelow, PrefixBelow, BoundsBelow};
 ghost use Rattle.wf_named.specs.NamedParts.{exprs_of, ArgsBelow, NamedTypeBelow};
@@ -31,7 +31,7 @@ use wf_text::Place;
 use wf_text::faults::NoMemory;
 use wf_text::found::Found;
 use wf_types_meanings::arguments::wanted;
-use wf_types_rules::{Bound, Meaning, Operand, Role, Value};
+use wf_types_rules::{Bound, Meaning, Operand, PlacedMeaning, Role};
 
 /// An expression of the package: what it means, if anything.
 #[cycle(judge_exprs)]
@@ -84,13 +84,13 @@ pub(crate) fn judge_expr(
 
 /// An expression: what it means, with its place.
 #[cycle(judge_exprs)]
-pub fn judge_value(here: &Here<'_>, found: &mut Found, e: ExprId) -> Result<Value, NoMemory>
+pub fn judge_value(here: &Here<'_>, found: &mut Found, e: ExprId) -> Result<PlacedMeaning, NoMemory>
     requires { e.0 < length here.now.nodes.now.exprs }
     ensures found { OnOk result (found.new ≡ judged here.now.around.now found.old (expr_parts (expr_at (exprs_of here.now.nodes.now) e))) }
     ensures value { IfOk result (λ v. v ≡ value_of here.now.around.now (expr_at (exprs_of here.now.nodes.now) e)) }
 {
     let of = judge_expr(here, found, e)?;
-    Ok(Value {
+    Ok(PlacedMeaning {
         of,
         at: place_of(here.nodes, e),
     })
@@ -102,7 +102,7 @@ pub fn judge_end(
     here: &Here<'_>,
     found: &mut Found,
     end: Option<ExprId>,
-) -> Result<Option<Value>, NoMemory>
+) -> Result<Option<PlacedMeaning>, NoMemory>
     requires { IsBelow (length here.now.nodes.now.exprs) end }
     ensures found { OnOk result (found.new ≡ judged here.now.around.now found.old (end_parts (part_at (exprs_of here.now.nodes.now) end))) }
     ensures end { IfOk result (λ v. v ≡ end_value here.now.around.now (part_at (exprs_of here.now.nodes.now) end)) }

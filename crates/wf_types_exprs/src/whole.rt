@@ -35,7 +35,7 @@ pub fn judge_type(
     Ok(allowed(role, written.of))
 }
 
-/// A call that is a whole statement, or the whole right side of `=` or `=?`, and what it gives.
+/// A call that stands by itself, as a statement or after `=` or `=?`, and what it gives.
 pub fn judge_whole_call(
     here: &Here<'_>,
     found: &mut Found,

@@ -6,7 +6,7 @@ ghost use Rattle.wf_ast.specs.WellTyped.{is_coroutine as coroutine_mark, is_pure
 ghost use Rattle.wf_types_rules.specs.declared.meanings.Meaning.TheVariants as meanings;
 ghost use Rattle.wf_types_rules.specs.Meanings.{there};
 ghost use Rattle.wf_types_rules.specs.ExprTypes.{given_by_base as base_gives};
-ghost use Rattle.wf_types_rules.specs.Judgements.{fails, method_at, result_of as result_in, gives_no_value as lacks_value, answer_type as type_answered, declared_mark as mark_declared, is_coroutine_called as calls_coroutine, is_given_nothing as nothing_given, is_base as base_called};
+ghost use Rattle.wf_types_rules.specs.Judgements.{fails, result_of as result_in, gives_no_value as lacks_value, answer_type as type_answered, declared_mark as mark_declared, is_coroutine_called as calls_coroutine, is_given_nothing as nothing_given, is_base as base_called};
 
 use crate::marks::{is_coroutine, is_pure};
 use crate::variables::{typed, variable};

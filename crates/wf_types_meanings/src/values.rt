@@ -1,6 +1,6 @@
 // What is made of values: elements, slices, conversions; and which values a type takes.
 
-ghost use Rattle.std.specs.Prelude.{◌≡◌, option_and_then, option_map};
+ghost use Rattle.std.specs.Prelude.{◌≡◌, option_and_then};
 ghost use Rattle.wf_ast.specs.declared.types.Ty.TheVariants as types;
 ghost use Rattle.wf_types_rules.specs.Meanings.{is_value as means_value, is_flag as means_flag, constant_number as number_meant};
 ghost use Rattle.wf_types_rules.specs.ExprTypes.{only_where, element_of as element_in, slice_in as sliced, converted as converts, if_number as only_for_number};

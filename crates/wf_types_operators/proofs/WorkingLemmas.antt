@@ -5,7 +5,7 @@ use Rattle.std.proofs.lemmas.Bool.Decides.{nat_tests}
 use Rattle.wf_base.specs.declared.widths.Width.{Width}
 use Rattle.wf_base.specs.declared.widths.Width.TheVariants.{W8, W16, W32, W64}
 use Rattle.wf_ast.specs.TypedTree.{plus, times, bits_and, bits_or, bits_xor}
-use Rattle.wf_ast.specs.TypedTrees.{Sort, arithmetic, ordering, joining}
+use Rattle.wf_ast.specs.TypedTrees.{OperatorKind, arithmetic, ordering, joining}
 use Rattle.wf_ast.specs.Value.{fitted}
 use Rattle.wf_types_rules.specs.declared.meanings.Meaning.{Meaning}
 use Rattle.wf_types_rules.specs.declared.meanings.Meaning.TheVariants as meanings
@@ -79,7 +79,7 @@ xors_are a [] = refl
 xors_are a (n ∷ ns) = xors_are (bit_xor a n) ns
 
 -- A chain by the capped number has the value of the chain.
-pub chain_is : (s : Sort) → joins s ≡ true → (width : Option Width) (a : ℕ) → a < 2 ^ 64 → (ns : List ℕ)
+pub chain_is : (s : OperatorKind) → joins s ≡ true → (width : Option Width) (a : ℕ) → a < 2 ^ 64 → (ns : List ℕ)
     → option_and_then (fitted (bits_in width)) (folded (capped_by s) (Some a) ns) ≡ value_by s (bits_in width) (a ∷ ns)
 chain_is (ordering op) j width a small ns = absurd (cc j)
 chain_is (joining both) j width a small ns = absurd (cc j)
@@ -108,18 +108,18 @@ constants_are [] = refl
 constants_are (o ∷ os) = ap (with_number (constant_number o.of)) (constants_are os) ∙ with_first o.of (list_all (λ o. is_constant o.of) os) (numbers os)
 
 -- What an operator gives, by a test whether its operands are all constant.
-of_constants : (s : Sort) (os : List Operand) (ns : List ℕ)
+of_constants : (s : OperatorKind) (os : List Operand) (ns : List ℕ)
     → computed_by s os (Some ns) ≡ constant_of (width_by s os) (value_by s (bits_in (width_by s os)) ns)
 of_constants (arithmetic op) os ns = refl
 of_constants (ordering op) os ns = refl
 of_constants (joining both) os ns = refl
 
-of_types : (s : Sort) (os : List Operand) → computed_by s os None ≡ number_in (width_by s os)
+of_types : (s : OperatorKind) (os : List Operand) → computed_by s os None ≡ number_in (width_by s os)
 of_types (arithmetic op) os = refl
 of_types (ordering op) os = refl
 of_types (joining both) os = refl
 
-pub computed_is : (s : Sort) (os : List Operand)
+pub computed_is : (s : OperatorKind) (os : List Operand)
     → computed_by s os (constants_in os)
     ≡ (if list_all (λ o. is_constant o.of) os then constant_of (width_by s os) (value_by s (bits_in (width_by s os)) (numbers os)) else number_in (width_by s os))
 computed_is s os = ap (computed_by s os) (constants_are os) ∙ by_test (list_all (λ o. is_constant o.of) os)

@@ -2,7 +2,7 @@
 use Rattle.std.specs.Prelude.{ℕ, ◌+◌, ◌*◌, Bool, false, List, [], ◌∷◌, map, Option, None, Some, if◌then◌else◌, nat_eq, bit_and, bit_or, bit_xor}
 use Rattle.wf_base.specs.declared.widths.Width.{Width}
 use Rattle.wf_ast.specs.TypedTree.{Arith, plus, times, bits_and, bits_or, bits_xor}
-use Rattle.wf_ast.specs.TypedTrees.{Sort, arithmetic}
+use Rattle.wf_ast.specs.TypedTrees.{OperatorKind, arithmetic}
 use Rattle.wf_ast.specs.Value.{fitted, applied}
 use Rattle.wf_types_rules.specs.declared.meanings.Meaning.{Meaning}
 use Rattle.wf_types_rules.specs.declared.meanings.Meaning.TheVariants as meanings
@@ -35,30 +35,30 @@ folded step so_far (n ∷ ns) = folded step (step so_far n) ns
 
 -- The same of operators of all kinds, of which only the arithmetic ones make numbers: a step of a chain, the value of two
 -- numbers and of the numbers of all operands, whether the operator has chains, the width of what it gives, and what it gives.
-abbrev pub capped_by : Sort → Option ℕ → ℕ → Option ℕ
+abbrev pub capped_by : OperatorKind → Option ℕ → ℕ → Option ℕ
 capped_by (arithmetic op) a n = capped op a n
 capped_by sort a n = None
 
-abbrev pub applied_by : Sort → (bits : ℕ) → (m n : ℕ) → Option ℕ
+abbrev pub applied_by : OperatorKind → (bits : ℕ) → (m n : ℕ) → Option ℕ
 applied_by (arithmetic op) bits m n = applied op bits m n
 applied_by sort bits m n = None
 
-abbrev pub two_by : Sort → (bits : ℕ) → List ℕ → Option ℕ
+abbrev pub two_by : OperatorKind → (bits : ℕ) → List ℕ → Option ℕ
 two_by (arithmetic op) bits ns = value_of_two op bits ns
 two_by sort bits ns = None
 
-abbrev pub value_by : Sort → (bits : ℕ) → List ℕ → Option ℕ
+abbrev pub value_by : OperatorKind → (bits : ℕ) → List ℕ → Option ℕ
 value_by (arithmetic op) bits ns = constant_value op bits ns
 value_by sort bits ns = None
 
-abbrev pub joins : Sort → Bool
+abbrev pub joins : OperatorKind → Bool
 joins (arithmetic op) = is_joined op
 joins sort = false
 
-abbrev pub width_by : Sort → List Operand → Option Width
+abbrev pub width_by : OperatorKind → List Operand → Option Width
 width_by (arithmetic op) os = width_given op os
 width_by sort os = None
 
-abbrev pub computed_by : Sort → List Operand → Option (List ℕ) → Option Meaning
+abbrev pub computed_by : OperatorKind → List Operand → Option (List ℕ) → Option Meaning
 computed_by (arithmetic op) os ns = computed op os ns
 computed_by sort os ns = None

@@ -1,7 +1,7 @@
 // Which constants fit the operands beside them.
 
 ghost use Rattle.std.specs.Prelude.{◌≡◌};
-ghost use Rattle.wf_ast.specs.TypedTrees.{sort_of};
+ghost use Rattle.wf_ast.specs.TypedTrees.{operator_kind};
 ghost use Rattle.wf_types_rules.specs.Operands.{first_not, common_width as width_in_common, fits_width as fits_in, not_fitting as first_unfit};
 
 use crate::meanings::{first_of, greatest, width_of};
@@ -51,7 +51,7 @@ fn first_unfit_beside(os: &[Operand]) -> Option<Place>
 /// The place of the first constant that doesn't fit the width of the operands beside it. The right side of a shift
 /// needn't.
 pub fn not_fitting(op: Op, os: &[Operand]) -> Option<Place>
-    ensures { result ≡ first_unfit (sort_of op) os.now }
+    ensures { result ≡ first_unfit (operator_kind op) os.now }
 {
     match op {
         Op::And => None,

@@ -1,7 +1,7 @@
 // What operators give.
 
 ghost use Rattle.std.specs.Prelude.{◌≡◌};
-ghost use Rattle.wf_ast.specs.TypedTrees.{sort_of};
+ghost use Rattle.wf_ast.specs.TypedTrees.{operator_kind};
 ghost use Rattle.wf_types_rules.specs.Operands.{left_width as width_on_the_left, are_taken as takes_all, constant_of as constant_with, number_in as number_with, constants_in, given as gives, meaning_of_operator as meaning_given, has_no_value as lacks_value};
 ghost use Rattle.wf_types_operators.specs.Working.{width_by, computed_by};
 
@@ -22,7 +22,7 @@ fn left_width(os: &[Operand]) -> Option<Width>
 
 // The width of the number that an arithmetic operator gives: that of its operands, and of a shift that of its left side.
 fn width_given(op: Op, os: &[Operand]) -> Option<Width>
-    ensures { result ≡ width_by (sort_of op) os.now }
+    ensures { result ≡ width_by (operator_kind op) os.now }
 {
     match op {
         Op::Shl => left_width(os),
@@ -69,7 +69,7 @@ fn number_in(width: Option<Width>) -> Option<Meaning>
 
 // What an arithmetic operator gives: a constant where all operands are constant, else a number of the width.
 fn computed(op: Op, os: &[Operand]) -> Option<Meaning>
-    ensures { result ≡ computed_by (sort_of op) os.now (constants_in os.now) }
+    ensures { result ≡ computed_by (operator_kind op) os.now (constants_in os.now) }
 {
     let width = width_given(op, os);
     if are_constants(os) {
@@ -81,7 +81,7 @@ fn computed(op: Op, os: &[Operand]) -> Option<Meaning>
 
 // What an operator gives of operands that it takes.
 fn given(op: Op, os: &[Operand]) -> Option<Meaning>
-    ensures { result ≡ gives (sort_of op) os.now }
+    ensures { result ≡ gives (operator_kind op) os.now }
 {
     match op {
         Op::And => Some(Meaning::Typed(Ty::Flag)),
@@ -113,7 +113,7 @@ fn given(op: Op, os: &[Operand]) -> Option<Meaning>
 
 // Whether an operator takes all operands, and each constant fits those beside it.
 fn are_taken(op: Op, os: &[Operand]) -> bool
-    ensures { result ≡ takes_all (sort_of op) os.now }
+    ensures { result ≡ takes_all (operator_kind op) os.now }
 {
     not_taken(op, os).is_none() && not_fitting(op, os).is_none()
 }
@@ -121,7 +121,7 @@ fn are_taken(op: Op, os: &[Operand]) -> bool
 /// What an operator gives, None where it doesn't take its operands or has no value. Takes time in proportion to the
 /// operands.
 pub fn meaning_of_operator(op: Op, os: &[Operand]) -> Option<Meaning>
-    ensures { result ≡ meaning_given (sort_of op) os.now }
+    ensures { result ≡ meaning_given (operator_kind op) os.now }
 {
     if are_taken(op, os) {
         given(op, os)
@@ -132,7 +132,7 @@ pub fn meaning_of_operator(op: Op, os: &[Operand]) -> Option<Meaning>
 
 /// Whether the operands are taken and constant, and yet there is no value.
 pub fn has_no_value(op: Op, os: &[Operand]) -> bool
-    ensures { result ≡ lacks_value (sort_of op) os.now }
+    ensures { result ≡ lacks_value (operator_kind op) os.now }
 {
     are_taken(op, os) && given(op, os).is_none()
 }

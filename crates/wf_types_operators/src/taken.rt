@@ -1,7 +1,7 @@
 // Which operands an operator takes.
 
 ghost use Rattle.std.specs.Prelude.{◌≡◌, None};
-ghost use Rattle.wf_ast.specs.TypedTrees.{sort_of};
+ghost use Rattle.wf_ast.specs.TypedTrees.{operator_kind};
 ghost use Rattle.wf_types_rules.specs.Meanings.{is_flag as means_flag, is_status as means_status};
 ghost use Rattle.wf_types_rules.specs.Operands.{first_not, not_of_one_width as first_of_other_width, shift_takes as takes_shift, not_shifted as first_unshifted, not_compared as first_uncompared, not_taken as first_untaken};
 
@@ -86,7 +86,7 @@ fn not_compared(os: &[Operand]) -> Option<Place>
 
 /// The place of the first operand that an operator doesn't take.
 pub fn not_taken(op: Op, os: &[Operand]) -> Option<Place>
-    ensures { result ≡ first_untaken (sort_of op) os.now }
+    ensures { result ≡ first_untaken (operator_kind op) os.now }
 {
     match op {
         Op::And => first_no_flag(os),

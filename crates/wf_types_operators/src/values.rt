@@ -2,7 +2,7 @@
 
 ghost use Rattle.std.specs.Prelude.{◌≡◌, ◌+◌, ◌*◌, ◌<◌, ◌^◌, Some, None, true, if◌then◌else◌, nat_eq};
 ghost use Rattle.std.specs.List.{list_all};
-ghost use Rattle.wf_ast.specs.TypedTrees.{sort_of};
+ghost use Rattle.wf_ast.specs.TypedTrees.{operator_kind};
 ghost use Rattle.wf_ast.specs.Value.{fitted as fits_in};
 ghost use Rattle.wf_types_rules.specs.Meanings.{is_constant as means_constant};
 ghost use Rattle.wf_types_rules.specs.Operands.{bits_in};
@@ -62,7 +62,7 @@ fn large_product(n: u64) -> Option<u64>
 
 // What a chain makes of its number so far, where it lies in 64 bits, and the next one.
 fn small_joined(op: Op, a: u64, n: u64) -> Option<u64>
-    ensures { result ≡ capped_by (sort_of op) (Some a) n }
+    ensures { result ≡ capped_by (operator_kind op) (Some a) n }
 {
     match op {
         Op::Add => sum(a, n),
@@ -94,7 +94,7 @@ fn small_joined(op: Op, a: u64, n: u64) -> Option<u64>
 
 // The same where it lies beyond.
 fn large_joined(op: Op, n: u64) -> Option<u64>
-    ensures { result ≡ capped_by (sort_of op) None n }
+    ensures { result ≡ capped_by (operator_kind op) None n }
 {
     match op {
         Op::Mul => large_product(n),
@@ -104,7 +104,7 @@ fn large_joined(op: Op, n: u64) -> Option<u64>
 
 // The chain so far with one number more.
 fn joined_one(op: Op, so_far: Option<u64>, n: u64) -> Option<u64>
-    ensures { result ≡ capped_by (sort_of op) so_far n }
+    ensures { result ≡ capped_by (operator_kind op) so_far n }
 {
     match so_far {
         Some(a) => small_joined(op, a, n),
@@ -114,7 +114,7 @@ fn joined_one(op: Op, so_far: Option<u64>, n: u64) -> Option<u64>
 
 // The whole chain.
 fn joined(op: Op, first: u64, others: &[Operand]) -> Option<u64>
-    ensures { result ≡ folded (capped_by (sort_of op)) (Some first) (numbers others.now) }
+    ensures { result ≡ folded (capped_by (operator_kind op)) (Some first) (numbers others.now) }
 {
     let mut so_far = Some(first);
     for o in others {
@@ -125,8 +125,8 @@ fn joined(op: Op, first: u64, others: &[Operand]) -> Option<u64>
 
 // The value of a chain: the whole lies in its width, and parts of it need not.
 fn chain_value(op: Op, width: Option<Width>, os: &[Operand]) -> Option<u64>
-    requires { joins (sort_of op) ≡ true }
-    ensures { result ≡ value_by (sort_of op) (bits_in width) (numbers os.now) }
+    requires { joins (operator_kind op) ≡ true }
+    ensures { result ≡ value_by (operator_kind op) (bits_in width) (numbers os.now) }
 {
     let (first, others) = os.split_first()?;
     fitted_if(width, joined(op, number(first.of), others))
@@ -134,7 +134,7 @@ fn chain_value(op: Op, width: Option<Width>, os: &[Operand]) -> Option<u64>
 
 // What an operator makes of two numbers of a width.
 fn applied(op: Op, width: Option<Width>, m: u64, n: u64) -> Option<u64>
-    ensures { result ≡ applied_by (sort_of op) (bits_in width) m n }
+    ensures { result ≡ applied_by (operator_kind op) (bits_in width) m n }
 {
     match op {
         Op::Add => fitted(width, m as u128 + n as u128),
@@ -166,7 +166,7 @@ fn applied(op: Op, width: Option<Width>, m: u64, n: u64) -> Option<u64>
 
 // The value of an operator that takes two operands.
 fn value_of_two(op: Op, width: Option<Width>, os: &[Operand]) -> Option<u64>
-    ensures { result ≡ two_by (sort_of op) (bits_in width) (numbers os.now) }
+    ensures { result ≡ two_by (operator_kind op) (bits_in width) (numbers os.now) }
 {
     match os {
         [a, b] => applied(op, width, number(a.of), number(b.of)),
@@ -177,7 +177,7 @@ fn value_of_two(op: Op, width: Option<Width>, os: &[Operand]) -> Option<u64>
 /// The value of an arithmetic operator on operands that are all constant, and None where it has none: it leaves the
 /// width, its divisor is 0, or its shift isn't below the width. Takes time in proportion to the operands.
 pub(crate) fn constant_value(op: Op, width: Option<Width>, os: &[Operand]) -> Option<u64>
-    ensures { result ≡ value_by (sort_of op) (bits_in width) (numbers os.now) }
+    ensures { result ≡ value_by (operator_kind op) (bits_in width) (numbers os.now) }
 {
     match op {
         Op::Add => chain_value(op, width, os),

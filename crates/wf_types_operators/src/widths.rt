@@ -1,6 +1,6 @@
 // Numbers within a width. A constant without one has 64 bits.
 
-ghost use Rattle.std.specs.Prelude.{◌≡◌, ◌+◌, ◌-◌, ◌*◌, ◌/◌, ◌%◌, ◌^◌, ◌≤◌, ◌<◌, None, Some, if◌then◌else◌, min, nat_eq, nat_le, nat_lt, option_and_then};
+ghost use Rattle.std.specs.Prelude.{◌≡◌, ◌-◌, ◌*◌, ◌/◌, ◌%◌, ◌^◌, ◌≤◌, ◌<◌, None, Some, if◌then◌else◌, min, nat_eq, nat_le, nat_lt, option_and_then};
 ghost use Rattle.wf_ast.specs.Value.{fitted as fits_in, only_if};
 ghost use Rattle.wf_types_rules.specs.Operands.{bits_in};
 

@@ -23,7 +23,7 @@ base of = base_type (Some of) (here 2) unrefined
 -- One constant `pri const NAME : TYPE = VALUE` and nothing more.
 abbrev pub constant_package : NamedTypeTree → NamedExprTree → NamedPackageTree
 constant_package of value =
-    record { package_name = codes "demo"; consts = record { name = word (codes "X") (at 1 11); of = of; value = value } ∷ []; statuses = []; structs = []; methods = []; order = [] }
+    record { package_name = codes "demo"; consts = record { name = word (codes "X") (at 1 11); of = of; value = value } ∷ []; statuses = []; structs = []; methods = []; order = []; struct_order = [] }
 
 abbrev pub byte_type : NamedTypeTree
 byte_type = base_type (Some (bases.Number W8)) (at 1 15) unrefined
@@ -77,6 +77,7 @@ package_doing f =
       structs = record { name = word (codes "s") (at 3 12); public = true; fields = variables } ∷ [];
       methods = f ∷ method_g ∷ method_h ∷ [];
       order = 1 ∷ 2 ∷ 0 ∷ [];
+      struct_order = 0 ∷ [];
     }
 
 -- A method without a result that does this alone.

@@ -9,7 +9,7 @@ use Rattle.wf_base.specs.declared.base_methods.BaseSig.{BaseSig}
 use Rattle.wf_base.specs.BaseTable.{bits_of, row_of}
 use Rattle.wf_ast.specs.declared.types.Ty.{Ty}
 use Rattle.wf_ast.specs.declared.types.Ty.TheVariants as types
-use Rattle.wf_ast.specs.TypedTrees.{sort_of}
+use Rattle.wf_ast.specs.TypedTrees.{operator_kind}
 use Rattle.wf_ast.specs.WellTyped.{is_pure}
 use Rattle.wf_named.specs.declared.nodes.BaseType.{BaseType}
 use Rattle.wf_named.specs.declared.nodes.BaseType.TheVariants as bases
@@ -102,7 +102,7 @@ abbrev mutual
   meaning s (slice p from to at) = option_map meanings.Typed (if_end s from (if_end s to (option_and_then slice_in (variable s p.of))))
   meaning s (answer c) = answer_inside s c
   meaning s (chain op first links at) =
-      option_and_then (meaning_of_operator (sort_of op)) (in_front (option_map (operand_at (place_of first)) (meaning s first)) (operands_behind s links))
+      option_and_then (meaning_of_operator (operator_kind op)) (in_front (option_map (operand_at (place_of first)) (meaning s first)) (operands_behind s links))
   meaning s (convert e t at) = option_and_then (converted (plain_width t)) (meaning s e)
   meaning s (negation e at) = option_and_then (only_where is_flag) (meaning s e)
 

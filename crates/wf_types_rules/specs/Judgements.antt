@@ -18,7 +18,7 @@ use Rattle.wf_base.specs.declared.base_methods.Gives.TheVariants as gives
 use Rattle.wf_base.specs.BaseTable.{bits_of, row_of}
 use Rattle.wf_ast.specs.declared.types.Ty.{Ty}
 use Rattle.wf_ast.specs.declared.types.Ty.TheVariants as types
-use Rattle.wf_ast.specs.TypedTrees.{sort_of}
+use Rattle.wf_ast.specs.TypedTrees.{operator_kind}
 use Rattle.wf_ast.specs.Value.{same_category}
 use Rattle.wf_ast.specs.WellTyped.{is_coroutine, is_pure, is_suspension, same_mark}
 use Rattle.wf_named.specs.declared.nodes.BaseType.{BaseType}
@@ -33,7 +33,7 @@ use Rattle.wf_types_rules.specs.declared.meanings.Meaning.{Meaning}
 use Rattle.wf_types_rules.specs.declared.meanings.Meaning.TheVariants as meanings
 use Rattle.wf_types_rules.specs.declared.meanings.Operand.{Operand}
 use Rattle.wf_types_rules.specs.declared.meanings.MethodType.{MethodType}
-use Rattle.wf_types_rules.specs.declared.meanings.Value.{Value}
+use Rattle.wf_types_rules.specs.declared.meanings.PlacedMeaning.{PlacedMeaning}
 use Rattle.wf_types_rules.specs.declared.meanings.Bound.{Bound}
 use Rattle.wf_types_rules.specs.Meanings.{all_of, same_width, there, variable, is_value, is_io, is_number, is_flag, is_status, is_constant, constant_number, width_of, place_of}
 use Rattle.wf_types_rules.specs.Operands.{first_of, differs_in, not_taken, not_fitting, has_no_value}
@@ -67,38 +67,38 @@ abbrev pub if_both : Bool → Option Place → Option Place
 if_both known at = if known then at else None
 
 -- What an expression means, with its place, and what a variable does where it stands. An end of a slice may be absent.
-abbrev pub value_of : Setting → NamedExprTree → Value
+abbrev pub value_of : Setting → NamedExprTree → PlacedMeaning
 value_of s e = record { of = meaning s e; at = place_of e }
 
-abbrev pub base_value : Setting → NamedPath → Value
+abbrev pub base_value : Setting → NamedPath → PlacedMeaning
 base_value s p = record { of = variable s p.of; at = p.at }
 
-abbrev pub end_value : Setting → NamedPartTree → Option Value
+abbrev pub end_value : Setting → NamedPartTree → Option PlacedMeaning
 end_value s absent = None
 end_value s (present e) = Some (value_of s e)
 
 -- Expressions.
-abbrev pub no_number : Value → Option Place
+abbrev pub no_number : PlacedMeaning → Option Place
 no_number v = at_if (fails is_number v.of) v.at
 
-abbrev pub no_flag : Value → Option Place
+abbrev pub no_flag : PlacedMeaning → Option Place
 no_flag v = at_if (fails is_flag v.of) v.at
 
-abbrev pub no_value : Value → Option Place
+abbrev pub no_value : PlacedMeaning → Option Place
 no_value v = at_if (fails is_value v.of) v.at
 
-abbrev pub no_index : (base place : Value) → Option Place
+abbrev pub no_index : (base place : PlacedMeaning) → Option Place
 no_index base place = if_both (is_some base.of && is_some place.of) (first_of (at_if (fails (λ m. is_some (element_of m)) base.of) base.at) (no_number place))
 
-abbrev pub is_known : Option Value → Bool
+abbrev pub is_known : Option PlacedMeaning → Bool
 is_known None = true
 is_known (Some v) = is_some v.of
 
-abbrev pub no_end : Option Value → Option Place
+abbrev pub no_end : Option PlacedMeaning → Option Place
 no_end None = None
 no_end (Some v) = no_number v
 
-abbrev pub no_slice : (base : Value) → (from to : Option Value) → Option Place
+abbrev pub no_slice : (base : PlacedMeaning) → (from to : Option PlacedMeaning) → Option Place
 no_slice base from to =
     if_both (is_some base.of && (is_known from && is_known to)) (first_of (at_if (fails (λ m. is_some (slice_in m)) base.of) base.at) (first_of (no_end from) (no_end to)))
 
@@ -108,14 +108,14 @@ abbrev pub wrong_operand : Setting → Part → Option Place
 wrong_operand s (expression (path p)) = no_value (base_value s p)
 wrong_operand s (expression (index p i at)) = no_index (base_value s p) (value_of s i)
 wrong_operand s (expression (slice p from to at)) = no_slice (base_value s p) (end_value s from) (end_value s to)
-wrong_operand s (expression (chain op first links at)) = option_and_then (not_taken (sort_of op)) (operands s first links)
+wrong_operand s (expression (chain op first links at)) = option_and_then (not_taken (operator_kind op)) (operands s first links)
 wrong_operand s (expression (convert e t at)) = no_number (value_of s e)
 wrong_operand s (expression (negation e at)) = no_flag (value_of s e)
 wrong_operand s x = None
 
 -- A constant that doesn't fit the width of an operand beside it.
 abbrev pub unfit_operand : Setting → Part → Option Place
-unfit_operand s (expression (chain op first links at)) = option_and_then (not_fitting (sort_of op)) (operands s first links)
+unfit_operand s (expression (chain op first links at)) = option_and_then (not_fitting (operator_kind op)) (operands s first links)
 unfit_operand s x = None
 
 -- A node of a constant expression that has no value: it leaves its width, its divisor is 0, or its shift isn't below the
@@ -125,7 +125,7 @@ is_cut (Some (meanings.Constant own value)) width = fails (λ w. nat_lt value (2
 is_cut m width = false
 
 abbrev pub node_without_value : Setting → Part → Option Place
-node_without_value s (expression (chain op first links at)) = at_if (meets (has_no_value (sort_of op)) (operands s first links)) at
+node_without_value s (expression (chain op first links at)) = at_if (meets (has_no_value (operator_kind op)) (operands s first links)) at
 node_without_value s (expression (convert e t at)) = at_if (is_cut (meaning s e) (plain_width t)) at
 node_without_value s x = None
 
@@ -162,11 +162,11 @@ meaning_of_argument s e = meaning s e
 abbrev pub may_be_handed : Meaning → Bool
 may_be_handed m = is_value m || is_io m
 
-abbrev pub argument_value : Setting → NamedExprTree → Value
+abbrev pub argument_value : Setting → NamedExprTree → PlacedMeaning
 argument_value s e = record { of = meaning_of_argument s e; at = place_of e }
 
 -- An argument of another type.
-abbrev pub not_handed : Option Ty → Value → Option Place
+abbrev pub not_handed : Option Ty → PlacedMeaning → Option Place
 not_handed ty v = at_if (fails may_be_handed v.of || both_fail takes ty v.of) v.at
 
 abbrev pub wrong_argument : Setting → Part → Option Place
@@ -308,7 +308,7 @@ begins_above_zero s (placed_type role t) = at_if (fails (is_zero_kept role) (wri
 begins_above_zero s x = None
 
 -- The value of a constant that is no number, and one outside the constant's type.
-abbrev pub no_constant : Value → Option Place
+abbrev pub no_constant : PlacedMeaning → Option Place
 no_constant v = at_if (fails is_constant v.of) v.at
 
 abbrev pub value_no_number : Setting → Part → Option Place
@@ -319,7 +319,7 @@ abbrev pub lies_in : Ty → ℕ → Bool
 lies_in (types.Num width lo hi) n = nat_le lo n && nat_le n hi
 lies_in ty n = true
 
-abbrev pub lies_outside : Option Ty → Value → Option Place
+abbrev pub lies_outside : Option Ty → PlacedMeaning → Option Place
 lies_outside ty v = at_if (both_fail lies_in ty (option_and_then constant_number v.of)) v.at
 
 abbrev pub value_outside : Setting → Part → Option Place
@@ -362,14 +362,14 @@ abbrev pub target_meaning : Setting → NamedTargetTree → Option Meaning
 target_meaning s (to_path p) = if is_no_target s (to_path p) then None else variable s p.of
 target_meaning s (to_element p i at) = meaning s (index p i at)
 
-abbrev pub target_value : Setting → NamedTargetTree → Value
+abbrev pub target_value : Setting → NamedTargetTree → PlacedMeaning
 target_value s t = record { of = target_meaning s t; at = target_place t }
 
 abbrev pub type_in : Meaning → Option Ty
 type_in (meanings.Typed ty) = Some ty
 type_in m = None
 
-abbrev pub type_of : Value → Option Ty
+abbrev pub type_of : PlacedMeaning → Option Ty
 type_of v = option_and_then type_in v.of
 
 abbrev pub target_type : Setting → NamedTargetTree → Option Ty
@@ -412,11 +412,11 @@ abbrev pub assigned_meaning : Setting → NamedExprTree → Option Meaning
 assigned_meaning s (answer c) = whole_answer s c
 assigned_meaning s e = meaning s e
 
-abbrev pub right_value : Setting → NamedExprTree → Value
+abbrev pub right_value : Setting → NamedExprTree → PlacedMeaning
 right_value s e = record { of = assigned_meaning s e; at = place_of e }
 
 -- `=` of another type than the target's, and of a call that gives no value.
-abbrev pub not_assigned : (t v : Value) → Option Place
+abbrev pub not_assigned : (t v : PlacedMeaning) → Option Place
 not_assigned t v = at_if (both_fail takes (type_of t) v.of) t.at
 
 abbrev pub wrong_assigned : Setting → Part → Option Place
@@ -428,18 +428,18 @@ no_value_assigned s (assigned t None (answer (call callee at mark args))) = at_i
 no_value_assigned s x = None
 
 -- An operator with `=` has the target as its first operand.
-abbrev pub two_operands : (t v : Value) → Option (List Operand)
+abbrev pub two_operands : (t v : PlacedMeaning) → Option (List Operand)
 two_operands t v = in_front (option_map (operand_at t.at) t.of) (in_front (option_map (operand_at v.at) v.of) (Some []))
 
 abbrev pub updated : Setting → NamedTargetTree → NamedExprTree → Option (List Operand)
 updated s t e = two_operands (target_value s t) (value_of s e)
 
 abbrev pub wrong_update : Setting → Part → Option Place
-wrong_update s (assigned t (Some op) e) = option_and_then (not_taken (sort_of op)) (updated s t e)
+wrong_update s (assigned t (Some op) e) = option_and_then (not_taken (operator_kind op)) (updated s t e)
 wrong_update s x = None
 
 abbrev pub unfit_update : Setting → Part → Option Place
-unfit_update s (assigned t (Some op) e) = option_and_then (not_fitting (sort_of op)) (updated s t e)
+unfit_update s (assigned t (Some op) e) = option_and_then (not_fitting (operator_kind op)) (updated s t e)
 unfit_update s x = None
 
 -- Conditions and results.
@@ -452,7 +452,7 @@ abbrev pub wrong_result : Option (Option Ty) → Option Meaning → Bool
 wrong_result None m = true
 wrong_result (Some ty) m = both_fail takes ty m
 
-abbrev pub is_wrong_return : Setting → Option Value → Bool
+abbrev pub is_wrong_return : Setting → Option PlacedMeaning → Bool
 is_wrong_return s None = is_coroutine s.mark || is_some s.gives
 is_wrong_return s (Some v) = if is_coroutine s.mark then fails is_status v.of else wrong_result s.gives v.of
 

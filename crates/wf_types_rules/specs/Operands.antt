@@ -5,7 +5,7 @@ use Rattle.wf_base.specs.declared.widths.Width.{Width}
 use Rattle.wf_base.specs.BaseTable.{bits_of}
 use Rattle.wf_ast.specs.declared.types.Ty.TheVariants as types
 use Rattle.wf_ast.specs.TypedTree.{Arith, plus, times, bits_and, bits_or, bits_xor, equal, differs}
-use Rattle.wf_ast.specs.TypedTrees.{Sort, arithmetic, ordering, joining}
+use Rattle.wf_ast.specs.TypedTrees.{OperatorKind, arithmetic, ordering, joining}
 use Rattle.wf_ast.specs.Value.{applied, fitted}
 use Rattle.wf_ast.specs.WellTyped.{is_shift}
 use Rattle.wf_types_rules.specs.declared.meanings.Meaning.{Meaning}
@@ -46,7 +46,7 @@ not_compared [] = None
 not_compared (o ∷ os) = if is_status o.of then first_not is_status os else not_of_one_width None (o ∷ os)
 
 -- The place of the first operand that an operator doesn't take.
-abbrev pub not_taken : Sort → List Operand → Option Place
+abbrev pub not_taken : OperatorKind → List Operand → Option Place
 not_taken (arithmetic op) os = if is_shift op then not_shifted os else not_of_one_width None os
 not_taken (ordering equal) os = not_compared os
 not_taken (ordering differs) os = not_compared os
@@ -64,7 +64,7 @@ fits_width (Some width) (meanings.Constant None value) = nat_lt value (2 ^ bits_
 fits_width width m = true
 
 -- The place of the first constant that doesn't fit the width of the operands beside it. The right side of a shift needn't.
-abbrev pub not_fitting : Sort → List Operand → Option Place
+abbrev pub not_fitting : OperatorKind → List Operand → Option Place
 not_fitting (arithmetic op) os = if is_shift op then None else first_not (fits_width (common_width os)) os
 not_fitting (ordering op) os = first_not (fits_width (common_width os)) os
 not_fitting (joining both) os = None
@@ -122,7 +122,7 @@ constants_in [] = Some []
 constants_in (o ∷ os) = with_number (constant_number o.of) (constants_in os)
 
 -- Operands that an operator takes.
-abbrev pub are_taken : Sort → List Operand → Bool
+abbrev pub are_taken : OperatorKind → List Operand → Bool
 are_taken sort os = not (is_some (not_taken sort os)) && not (is_some (not_fitting sort os))
 
 -- What the operator gives.
@@ -138,14 +138,14 @@ abbrev pub computed : Arith → List Operand → Option (List ℕ) → Option Me
 computed op os (Some ns) = constant_of (width_given op os) (constant_value op (bits_in (width_given op os)) ns)
 computed op os None = number_in (width_given op os)
 
-abbrev pub given : Sort → List Operand → Option Meaning
+abbrev pub given : OperatorKind → List Operand → Option Meaning
 given (arithmetic op) os = computed op os (constants_in os)
 given (ordering op) os = Some (meanings.Typed types.Flag)
 given (joining both) os = Some (meanings.Typed types.Flag)
 
-abbrev pub meaning_of_operator : Sort → List Operand → Option Meaning
+abbrev pub meaning_of_operator : OperatorKind → List Operand → Option Meaning
 meaning_of_operator sort os = if are_taken sort os then given sort os else None
 
 -- The operands are taken and constant, and yet there is no value.
-abbrev pub has_no_value : Sort → List Operand → Bool
+abbrev pub has_no_value : OperatorKind → List Operand → Bool
 has_no_value sort os = are_taken sort os && not (is_some (given sort os))

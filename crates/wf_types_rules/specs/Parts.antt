@@ -74,7 +74,7 @@ abbrev mutual
   bounds_parts unrefined = []
   bounds_parts (refined low high) = end_parts low ++ expr_parts high
 
--- A call that is a whole statement, or the whole right side of `=` or `=?`.
+-- A call that stands by itself, as a statement or after `=` or `=?`.
 abbrev pub whole_call_parts : NamedCallTree → List Part
 whole_call_parts (call callee at mark args) = calling false (call callee at mark args) ∷ args_parts callee 0 args
 

@@ -45,8 +45,8 @@ type_rules =
     ∷ (T4, reaches_end)
     -- T5: a node of a constant expression that has no value
     ∷ (T5, node_without_value)
-    -- T5: a constant that doesn't fit the width of an operand beside it. One that doesn't fit the target, the argument or the
-    -- result that takes it breaks no rule of types
+    -- T5: a constant that doesn't fit the width of an operand beside it. One that doesn't fit what it goes to, a target, an
+    -- argument or a result, breaks no rule of types
     ∷ (T5, unfit_operand)
     -- T5: the same of an operator with `=`, whose target is its first operand
     ∷ (T5, unfit_update)
@@ -74,7 +74,7 @@ type_rules =
     ∷ (E2, kept_outside)
     -- E2: `yield?` outside a coroutine
     ∷ (E2, yielded_outside)
-    -- E3: a call with a mark, of an own method or through a field inside an expression
+    -- E3: a call inside an expression that has a mark, or is of an own method or through a field
     ∷ (E3, call_inside)
     -- E3: a call whose mark isn't the declared one
     ∷ (E3, wrong_mark)

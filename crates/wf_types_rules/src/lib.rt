@@ -1,5 +1,5 @@
-// The rules of types and effects over resolved packages, as definitions: what a package breaks and where, and which
-// refusal decides. The notions that code shares with them are types of this crate.
+// The rules of types and effects over resolved packages, as definitions: what a package breaks and where, and the
+// first refusal. The notions that code shares with them are types of this crate.
 #![tactic(auto)]
 
 pub mod examples;
@@ -7,5 +7,5 @@ pub mod laws;
 pub mod meanings;
 pub mod settings;
 
-pub use meanings::{Bound, Constant, Meaning, MethodType, Operand, Value};
+pub use meanings::{Bound, Constant, Meaning, MethodType, Operand, PlacedMeaning};
 pub use settings::{Around, Form, Role, Setting};

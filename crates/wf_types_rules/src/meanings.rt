@@ -23,7 +23,7 @@ pub struct Operand {
 
 /// What a part means, if anything, and its place.
 #[derive(Clone, Copy, PartialEq, Eq)]
-pub struct Value {
+pub struct PlacedMeaning {
     pub of: Option<Meaning>,
     pub at: Place,
 }

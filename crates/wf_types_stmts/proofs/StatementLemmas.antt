@@ -13,7 +13,7 @@ use Rattle.wf_named.specs.declared.nodes.NamedPath.{NamedPath}
 use Rattle.wf_named.specs.NamedTree.{NamedExprTree, number, status, truth, path, index, slice, answer, chain, convert, negation, NamedPartTree, absent, present, NamedArgTrees, call, NamedTargetTree, to_path, to_element, NamedBlockTree}
 use Rattle.wf_named.specs.NamedTrees.{expr_at, clauses_at, letters_at}
 use Rattle.wf_types_rules.specs.declared.meanings.Meaning.{Meaning}
-use Rattle.wf_types_rules.specs.declared.meanings.Value.{Value}
+use Rattle.wf_types_rules.specs.declared.meanings.PlacedMeaning.{PlacedMeaning}
 use Rattle.wf_types_rules.specs.declared.settings.Setting.{Setting}
 use Rattle.wf_types_rules.specs.Meanings.{place_of}
 use Rattle.wf_types_rules.specs.ExprTypes.{meaning}
@@ -41,7 +41,7 @@ element_found s found begun after p i at same e =
     ∙ sym (judged-append s found (target (to_element p i at) ∷ []) (expr_parts (index p i at)))
 
 pub element_value : (s : Setting) (p : NamedPath) (i : NamedExprTree) (at : Place) (m : Option Meaning) → m ≡ meaning s (index p i at) → record { of = m; at = at } ≡ target_value s (to_element p i at)
-element_value s p i at m e = let V : Option Meaning → Value = λ x. record { of = x; at = at } in ap V e
+element_value s p i at m e = let V : Option Meaning → PlacedMeaning = λ x. record { of = x; at = at } in ap V e
 
 -- A whole after its parts.
 behind : (s : Setting) (found before after : Option Refusal) (x : Part) (xs : List Part) → after ≡ judged s before (x ∷ []) → before ≡ judged s found xs → after ≡ judged s found (x ∷ xs)
@@ -70,7 +70,7 @@ unfolding judged
 assigned_alone s found t e =
     ap (λ w. sooner (sooner found (told T2 (not_assigned (target_value s t) (right_value s e)))) (told T2 w)) (lacking s t e)
 
-pub assigned_judged : (s : Setting) (found to before : Option Refusal) (t : NamedTargetTree) (e : NamedExprTree) (a v : Value) (lacks : Bool) → a ≡ target_value s t → v ≡ right_value s e → lacks ≡ lacks_value s e
+pub assigned_judged : (s : Setting) (found to before : Option Refusal) (t : NamedTargetTree) (e : NamedExprTree) (a v : PlacedMeaning) (lacks : Bool) → a ≡ target_value s t → v ≡ right_value s e → lacks ≡ lacks_value s e
     → to ≡ judged s found (target_parts t) → before ≡ judged s to (value_parts None e)
     → assigned_found a v lacks before ≡ judged s found (assigned t None e ∷ (target_parts t ++ value_parts None e))
 assigned_judged s found to before t e a v lacks same value none first last =
@@ -122,7 +122,7 @@ update_alone : (s : Setting) (found : Option Refusal) (t : NamedTargetTree) (op 
 unfolding judged
 update_alone s found t op e = refl
 
-pub update_judged : (s : Setting) (found to before : Option Refusal) (t : NamedTargetTree) (op : Op) (e : NamedExprTree) (a v : Value) → a ≡ target_value s t → v ≡ value_of s e
+pub update_judged : (s : Setting) (found to before : Option Refusal) (t : NamedTargetTree) (op : Op) (e : NamedExprTree) (a v : PlacedMeaning) → a ≡ target_value s t → v ≡ value_of s e
     → to ≡ judged s found (target_parts t) → before ≡ judged s to (expr_parts e)
     → operands_found op (two_operands a v) before ≡ judged s found (assigned t (Some op) e ∷ (target_parts t ++ value_parts (Some op) e))
 update_judged s found to before t op e a v same value first last =
@@ -136,12 +136,12 @@ kept_alone : (s : Setting) (found : Option Refusal) (t : NamedTargetTree) (calle
 unfolding judged
 kept_alone s found t callee at mark args = refl
 
-pub kept_judged : (s : Setting) (found to before : Option Refusal) (t : NamedTargetTree) (callee : NamedCallee) (at : Place) (mark : Mark) (args : NamedArgTrees) (a : Value) → a ≡ target_value s t
+pub kept_judged : (s : Setting) (found to before : Option Refusal) (t : NamedTargetTree) (callee : NamedCallee) (at : Place) (mark : Mark) (args : NamedArgTrees) (a : PlacedMeaning) → a ≡ target_value s t
     → to ≡ judged s found (target_parts t) → before ≡ judged s to (whole_call_parts (call callee at mark args))
     → kept_found s a.of callee at before ≡ judged s found (kept t (call callee at mark args) ∷ (target_parts t ++ whole_call_parts (call callee at mark args)))
 kept_judged s found to before t callee at mark args a same first last =
     behind s found before (kept_found s a.of callee at before) (kept t (call callee at mark args)) (target_parts t ++ whole_call_parts (call callee at mark args))
-    (ap (λ (x : Value). kept_found s x.of callee at before) same ∙ kept_alone s before t callee at mark args)
+    (ap (λ (x : PlacedMeaning). kept_found s x.of callee at before) same ∙ kept_alone s before t callee at mark args)
     (then_parts s found to before (target_parts t) (whole_call_parts (call callee at mark args)) first last)
 
 -- Conditions and letters.
@@ -149,7 +149,7 @@ condition_alone : (s : Setting) (found : Option Refusal) (e : NamedExprTree) →
 unfolding judged
 condition_alone s found e = refl
 
-pub condition_judged : (s : Setting) (found before : Option Refusal) (e : NamedExprTree) (v : Value) → v ≡ value_of s e → before ≡ judged s found (expr_parts e)
+pub condition_judged : (s : Setting) (found before : Option Refusal) (e : NamedExprTree) (v : PlacedMeaning) → v ≡ value_of s e → before ≡ judged s found (expr_parts e)
     → condition_found v before ≡ judged s found (condition_parts e)
 condition_judged s found before e v value h =
     behind s found before (condition_found v before) (condition e) (expr_parts e) (ap (λ x. condition_found x before) value ∙ condition_alone s before e) h
@@ -158,7 +158,7 @@ letter_alone : (s : Setting) (found : Option Refusal) (e : NamedExprTree) → le
 unfolding judged
 letter_alone s found e = refl
 
-pub letter_judged : (s : Setting) (found before : Option Refusal) (e : NamedExprTree) (v : Value) → v ≡ value_of s e → before ≡ judged s found (expr_parts e)
+pub letter_judged : (s : Setting) (found before : Option Refusal) (e : NamedExprTree) (v : PlacedMeaning) → v ≡ value_of s e → before ≡ judged s found (expr_parts e)
     → letter_found v before ≡ judged s found (letter_value e ∷ expr_parts e)
 letter_judged s found before e v value h =
     behind s found before (letter_found v before) (letter_value e) (expr_parts e) (ap (λ x. letter_found x before) value ∙ letter_alone s before e) h
@@ -185,7 +185,7 @@ unfolding judged
 return_alone s found at absent = refl
 return_alone s found at (present e) = refl
 
-pub return_judged : (s : Setting) (found before : Option Refusal) (at : Place) (e : NamedPartTree) (v : Option Value) → v ≡ end_value s e → before ≡ judged s found (end_parts e)
+pub return_judged : (s : Setting) (found before : Option Refusal) (at : Place) (e : NamedPartTree) (v : Option PlacedMeaning) → v ≡ end_value s e → before ≡ judged s found (end_parts e)
     → return_found s v at before ≡ judged s found (returned at e ∷ end_parts e)
 return_judged s found before at e v value h =
     behind s found before (return_found s v at before) (returned at e) (end_parts e) (ap (λ x. return_found s x at before) value ∙ return_alone s before at e) h

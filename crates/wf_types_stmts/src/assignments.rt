@@ -1,7 +1,7 @@
 // Assignments: `=`, operators with `=`, and `=?`.
 
-ghost use Rattle.std.specs.Prelude.{◌≡◌, ◌<◌, ◌∷◌, ◌++◌, [], None, Some, not, length, IfOk, OnOk, IfSome, IfNone, option_and_then};
-ghost use Rattle.wf_ast.specs.TypedTrees.{sort_of};
+ghost use Rattle.std.specs.Prelude.{◌≡◌, ◌<◌, ◌∷◌, ◌++◌, None, Some, not, length, IfOk, OnOk, IfSome, IfNone, option_and_then};
+ghost use Rattle.wf_ast.specs.TypedTrees.{operator_kind};
 ghost use Rattle.wf_named.specs.NamedParts.{exprs_of, ArgsBelow, NamedTargetBelow};
 ghost use Rattle.wf_named.specs.NamedTrees.{expr_at, call_at, target_at};
 ghost use Rattle.wf_types_rules.specs.Judgements.{right_value, at_if as at_place_if, type_in as typed_so, both_fail, fails, takes as takes_value, not_assigned, two_operands, outside_coroutine, is_coroutine_called as calls_coroutine};
@@ -30,12 +30,12 @@ use wf_types_meanings::values::{takes, type_in};
 use wf_types_operators::fitting::not_fitting;
 use wf_types_operators::meanings::is_status;
 use wf_types_operators::taken::not_taken;
-use wf_types_rules::{Around, Meaning, Operand, Value};
+use wf_types_rules::{Around, Meaning, Operand, PlacedMeaning};
 
 /// The right side of `=`: what it means, with its place, and whether it is a call that gives no value.
 #[derive(Clone, Copy, PartialEq, Eq)]
 pub(crate) struct RightSide {
-    pub value: Value,
+    pub value: PlacedMeaning,
     pub lacks: bool,
 }
 
@@ -67,20 +67,20 @@ pub(crate) fn is_no_status(of: Option<Meaning>) -> bool
     }
 }
 
-fn wrong_assigned(target: Value, value: Value) -> Option<Place>
+fn wrong_assigned(target: PlacedMeaning, value: PlacedMeaning) -> Option<Place>
     ensures { result ≡ not_assigned target value }
 {
     at_if(is_not_taken(type_of(target.of), value.of), target.at)
 }
 
-fn no_value_assigned(target: Value, lacks: bool) -> Option<Place>
+fn no_value_assigned(target: PlacedMeaning, lacks: bool) -> Option<Place>
     ensures { result ≡ at_place_if lacks target.at }
 {
     at_if(lacks, target.at)
 }
 
 /// Tells what `=` breaks.
-pub(crate) fn tell_assigned(found: &mut Found, target: Value, right: RightSide)
+pub(crate) fn tell_assigned(found: &mut Found, target: PlacedMeaning, right: RightSide)
     ensures { found.new ≡ assigned_found target right.value right.lacks found.old }
 {
     found.tell(Rule::T2, wrong_assigned(target, right.value));
@@ -88,13 +88,13 @@ pub(crate) fn tell_assigned(found: &mut Found, target: Value, right: RightSide)
 }
 
 fn wrong_update(op: Op, os: &[Operand]) -> Option<Place>
-    ensures { result ≡ first_untaken (sort_of op) os.now }
+    ensures { result ≡ first_untaken (operator_kind op) os.now }
 {
     not_taken(op, os)
 }
 
 fn unfit_update(op: Op, os: &[Operand]) -> Option<Place>
-    ensures { result ≡ first_unfit (sort_of op) os.now }
+    ensures { result ≡ first_unfit (operator_kind op) os.now }
 {
     not_fitting(op, os)
 }
@@ -107,7 +107,7 @@ fn tell_operands(found: &mut Found, op: Op, os: &[Operand])
 }
 
 /// Tells what an operator with `=` breaks.
-pub(crate) fn tell_update(found: &mut Found, op: Op, target: Value, value: Value)
+pub(crate) fn tell_update(found: &mut Found, op: Op, target: PlacedMeaning, value: PlacedMeaning)
     ensures { found.new ≡ operands_found op (two_operands target value) found.old }
 {
     match (target.of, value.of) {
@@ -215,7 +215,7 @@ pub(crate) fn judge_right(
         Some(call) => {
             let of = judge_whole_call(here, found, call)?;
             Ok(RightSide {
-                value: Value {
+                value: PlacedMeaning {
                     of,
                     at: place_of(here.nodes, e),
                 },

@@ -6,7 +6,7 @@ ghost use Rattle.wf_ast.specs.ParsedParts.{BlockBelow, ElseBelow};
 ghost use Rattle.wf_ast.specs.Above.{above_block, above_else, above_arms};
 ghost use Rattle.wf_named.specs.NamedParts.{exprs_of, stmts_of};
 ghost use Rattle.wf_named.specs.NamedTrees.{expr_at, stmt_at, block_at, else_at, arms_at};
-ghost use Rattle.wf_types_rules.specs.Judgements.{at_if as at_place_if, is_word_true as word_true, ends_without_result, stmt_leaves as leaves_by_stmt, block_leaves as leaves_by_block, arms_leave as leaves_by_arms, stmt_stops as stops_at_stmt, block_stops as stops_in_block, arms_stop as stops_in_arms, closing_brace};
+ghost use Rattle.wf_types_rules.specs.Judgements.{at_if as at_place_if, is_word_true as word_true, ends_without_result, stmt_leaves as leaves_by_stmt, block_leaves as leaves_by_block, arms_leave as leaves_by_arms, stmt_stops as stops_at_stmt, block_stops as stops_in_block, arms_stop as stops_in_arms};
 ghost use Rattle.wf_types_rules.specs.Parts.{whole_body};
 ghost use Rattle.wf_types_exprs.specs.Judged.{judged};
 ghost use Rattle.wf_types_stmts.specs.Statements.{end_found};

@@ -27,29 +27,29 @@ use wf_types_exprs::walk::{judge_end, judge_value};
 use wf_types_meanings::marks::is_coroutine;
 use wf_types_meanings::places::at_if;
 use wf_types_operators::meanings::{is_flag, is_number};
-use wf_types_rules::{Around, Meaning, Value};
+use wf_types_rules::{Around, Meaning, PlacedMeaning};
 
-fn wrong_condition(v: Value) -> Option<Place>
+fn wrong_condition(v: PlacedMeaning) -> Option<Place>
     ensures { result ≡ no_flag v }
 {
     at_if(!is_flag(v.of?), v.at)
 }
 
-fn wrong_letter(v: Value) -> Option<Place>
+fn wrong_letter(v: PlacedMeaning) -> Option<Place>
     ensures { result ≡ no_number v }
 {
     at_if(!is_number(v.of?), v.at)
 }
 
 /// Tells what a condition breaks.
-pub(crate) fn tell_condition(found: &mut Found, v: Value)
+pub(crate) fn tell_condition(found: &mut Found, v: PlacedMeaning)
     ensures { found.new ≡ condition_found v found.old }
 {
     found.tell(Rule::T3, wrong_condition(v));
 }
 
 /// Tells what a value breaks that is given for a letter of an axiom.
-pub(crate) fn tell_letter(found: &mut Found, v: Value)
+pub(crate) fn tell_letter(found: &mut Found, v: PlacedMeaning)
     ensures { found.new ≡ letter_found v found.old }
 {
     found.tell(Rule::T1, wrong_letter(v));
@@ -64,7 +64,7 @@ fn is_no_result(gives: Option<Option<Ty>>, of: Option<Meaning>) -> bool
     }
 }
 
-fn is_wrong_return(around: &Around<'_>, value: Option<Value>) -> bool
+fn is_wrong_return(around: &Around<'_>, value: Option<PlacedMeaning>) -> bool
     ensures { result ≡ wrong_return_in around.now value }
 {
     match value {
@@ -79,14 +79,19 @@ fn is_wrong_return(around: &Around<'_>, value: Option<Value>) -> bool
     }
 }
 
-fn wrong_return(around: &Around<'_>, value: Option<Value>, at: Place) -> Option<Place>
+fn wrong_return(around: &Around<'_>, value: Option<PlacedMeaning>, at: Place) -> Option<Place>
     ensures { result ≡ at_place_if (wrong_return_in around.now value) at }
 {
     at_if(is_wrong_return(around, value), at)
 }
 
 /// Tells what a `return` breaks, whose value may be absent.
-pub(crate) fn tell_return(found: &mut Found, around: &Around<'_>, value: Option<Value>, at: Place)
+pub(crate) fn tell_return(
+    found: &mut Found,
+    around: &Around<'_>,
+    value: Option<PlacedMeaning>,
+    at: Place,
+)
     ensures { found.new ≡ return_found around.now value at found.old }
 {
     found.tell(Rule::T4, wrong_return(around, value, at));

@@ -26,7 +26,7 @@ use wf_types_meanings::marks::is_pure;
 use wf_types_meanings::places::at_if;
 use wf_types_meanings::variables::variable;
 use wf_types_operators::meanings::is_value;
-use wf_types_rules::{Around, Meaning, Value};
+use wf_types_rules::{Around, Meaning, PlacedMeaning};
 
 fn is_no_value(of: Option<Meaning>) -> bool
     ensures { result ≡ fails means_value of }
@@ -98,12 +98,12 @@ fn path_written(around: &Around<'_>, path: NamedPath) -> Option<Meaning>
 }
 
 /// A path as a target.
-pub(crate) fn judged_path(found: &mut Found, around: &Around<'_>, path: NamedPath) -> Value
+pub(crate) fn judged_path(found: &mut Found, around: &Around<'_>, path: NamedPath) -> PlacedMeaning
     ensures found { found.new ≡ judged around.now found.old (target_parts (tree.to_path path)) }
     ensures value { result ≡ target_value around.now (tree.to_path path) }
 {
     tell_target(found, around, NamedTarget::Path(path));
-    Value {
+    PlacedMeaning {
         of: path_written(around, path),
         at: path.at,
     }
@@ -130,7 +130,7 @@ pub(crate) fn judge_target(
     here: &Here<'_>,
     found: &mut Found,
     target: NamedTarget,
-) -> Result<Value, NoMemory>
+) -> Result<PlacedMeaning, NoMemory>
     requires { NamedTargetBelow (length here.now.nodes.now.exprs) target }
     ensures found { OnOk result (found.new ≡ judged here.now.around.now found.old (target_parts (target_at (exprs_of here.now.nodes.now) target))) }
     ensures value { IfOk result (λ v. v ≡ target_value here.now.around.now (target_at (exprs_of here.now.nodes.now) target)) }
@@ -140,7 +140,7 @@ pub(crate) fn judge_target(
         NamedTarget::Element { base, index, at } => {
             tell_target(found, here.around, NamedTarget::Element { base, index, at });
             let of = judge_element(here, found, base, index)?;
-            Ok(Value { of, at })
+            Ok(PlacedMeaning { of, at })
         }
     }
 }

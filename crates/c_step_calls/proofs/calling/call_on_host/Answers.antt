@@ -1,12 +1,12 @@
-use Rattle.std.proofs.Common.{◌≡◌, ℕ, ◌+◌, ◌-◌, ◌≤◌, ◌∷◌, List, length, map, take, Some, refl, sym, ap, ◌∙◌, subst, arith}
+use Rattle.std.proofs.Common.{◌≡◌, ◌+◌, ◌-◌, ◌≤◌, ◌∷◌, List, length, map, refl, sym, ap, ◌∙◌, arith}
 use Rattle.std.specs.Prelude.{option_map}
 use Rattle.wf_bufs.specs.HostSeen.{host_of}
 use Rattle.wf_bufs.specs.HostViews.{arg_of}
 use Rattle.wf_text.specs.Surface as kind
 use Rattle.turns.specs.Run.{Got, More, Lost}
-use Rattle.c_meaning.specs.declared.values.Value.{Value}
+use Rattle.c_meaning.specs.declared.values.CValue.{CValue}
 use Rattle.c_meaning.specs.CMemory.{Memory}
-use Rattle.c_meaning.specs.CRun.{all_values, call_memory, answer_of, answered_with, args_left, response, call_of, function_name}
+use Rattle.c_meaning.specs.CRun.{all_values, answer_of, function_name}
 use Rattle.c_mem.specs.MemoryViews.{memory}
 use Rattle.c_step_engine.specs.Engines.{given, outcome_for}
 use Rattle.c_step_calls.proofs.Shapes.{during_call, values_length, same_args}
@@ -32,7 +32,7 @@ call_by_host-requires-clause-empty c = c.requires.rests.empty
 pub call_by_host-requires-clause-room : goal.call_by_host-requires-clause-room
 call_by_host-requires-clause-room c =
     let v : length c.as_slice.result.now ≡ length (c.args.called.receiver ∷ all_values (host_of c.args.host.now) c.args.room.now.objects (c.args.room.now.objects + c.args.room.now.most) (map arg_of c.args.args.now)) =
-    ap (λ (xs : List Value). length xs) (c.as_slice.ensures.value ∙ c.pass.ensures.values) in
+    ap (λ (xs : List CValue). length xs) (c.as_slice.ensures.value ∙ c.pass.ensures.values) in
     let l = values_length (host_of c.args.host.now) c.args.room.now.objects (c.args.room.now.objects + c.args.room.now.most) (map arg_of c.args.args.now) in
     let s = same_args c.args.args.now in
     omega (arith, v, l, s, c.requires.few, c.requires.rests.passed)

@@ -2,8 +2,8 @@ use Rattle.std.proofs.Common.{◌≡◌, List, [], ◌∷◌, ◌++◌, Option, 
 use Rattle.std.specs.Prelude.{option_map, option_and_then, reverse}
 use Rattle.std.proofs.lemmas.List.{append-nil}
 use Rattle.c_meaning.specs.declared.values.Pointer.{Pointer}
-use Rattle.c_meaning.specs.declared.values.Value.{Value}
-use Rattle.c_meaning.specs.declared.values.Value.TheVariants.{Address as address}
+use Rattle.c_meaning.specs.declared.values.CValue.{CValue}
+use Rattle.c_meaning.specs.declared.values.CValue.TheVariants.{Address as address}
 use Rattle.c_meaning.specs.CExprs.{value, place, arg_values, all_some}
 use Rattle.c_step_exprs.specs.declared.instrs.Instr.{Instr}
 use Rattle.c_step_exprs.specs.Instrs.{exec}
@@ -12,11 +12,11 @@ use Rattle.c_step_exprs.specs.Values.{around}
 use Rattle.c_step_exprs.proofs.ValueRuns.{value_runs, place_runs, args_run}
 use Rattle.c_step_exprs.proofs.laws.instructions_put_the_value.Goals as goal
 
-one : (stack : List Value) (o : Option Value) → option_and_then (λ v. Some (v ∷ stack)) o ≡ option_map (λ v. v ∷ stack) o
+one : (stack : List CValue) (o : Option CValue) → option_and_then (λ v. Some (v ∷ stack)) o ≡ option_map (λ v. v ∷ stack) o
 one stack None = refl
 one stack (Some v) = refl
 
-one_place : (stack : List Value) (o : Option Pointer) → option_and_then (λ v. Some (v ∷ stack)) (option_map address o) ≡ option_map (λ p. address p ∷ stack) o
+one_place : (stack : List CValue) (o : Option Pointer) → option_and_then (λ v. Some (v ∷ stack)) (option_map address o) ≡ option_map (λ p. address p ∷ stack) o
 one_place stack None = refl
 one_place stack (Some p) = refl
 
@@ -28,7 +28,7 @@ pub returns-clause-place : goal.returns-clause-place
 returns-clause-place c = λ s calls e stack known.
     ap (λ (is : List Instr). exec (around s calls) 0 is stack) (sym (append-nil (place_code s.scope e))) ∙ ((place_runs s calls known e).by [] stack ∙ one_place stack (place s e))
 
-many : (stack : List Value) (o : Option (List Value)) → option_and_then (λ vs. Some (reverse vs ++ stack)) o ≡ option_map (λ vs. reverse vs ++ stack) o
+many : (stack : List CValue) (o : Option (List CValue)) → option_and_then (λ vs. Some (reverse vs ++ stack)) o ≡ option_map (λ vs. reverse vs ++ stack) o
 many stack None = refl
 many stack (Some vs) = refl
 

@@ -1,5 +1,5 @@
 use Rattle.std.proofs.Common.{◌≡◌, ℕ, ◌+◌, ◌-◌, ◌≤◌, List, Option, length}
-use Rattle.c_meaning.specs.declared.values.Value.{Value}
+use Rattle.c_meaning.specs.declared.values.CValue.{CValue}
 use Rattle.c_mem.specs.MemoryViews.{memory}
 use Rattle.c_step_exprs.specs.Running.{run_from}
 use Rattle.c_step_exprs.specs.Stacks.{on_stack, most}
@@ -13,7 +13,7 @@ invariant-loop-at l =
     × ((most l.fn.stack ≤ most l.stack)
     × ((l.fn.from ≤ l.at)
     × ((length (on_stack l.stack) + l.fn.from ≤ length (on_stack l.fn.stack) + l.at)
-    × ((called : ℕ → List Value → Option Value) → run_from (placed l.frame (memory l.mem) called) l.code l.fn.from (on_stack l.fn.stack) ≡ run_from (placed l.frame (memory l.mem) called) l.code l.at (on_stack l.stack))))))
+    × ((called : ℕ → List CValue → Option CValue) → run_from (placed l.frame (memory l.mem) called) l.code l.fn.from (on_stack l.fn.stack) ≡ run_from (placed l.frame (memory l.mem) called) l.code l.at (on_stack l.stack))))))
 
 abbrev pub decreases-loop-at : goal.decreases-loop-at
 decreases-loop-at l = length l.code - l.at

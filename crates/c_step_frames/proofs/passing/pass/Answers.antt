@@ -8,7 +8,7 @@ use Rattle.c_step_frames.proofs.passing.pass.Goals as goal
 
 pub loop-left-preserved : goal.loop-left-preserved
 loop-left-preserved c =
-    let h = c.in-Some.ensures.passes in
+    let h = c.in_ok-pass_one.ensures.passes in
     let ts = c.args.types.now in
     let fs = c.loop-left.object in
     let i = c.loop-left.left - 1 in
@@ -20,10 +20,11 @@ loop-left-preserved c =
           (omega arith) c.loop-left.invariant.within c.loop-left.invariant.shaped h.3 h.4 h.5 h.6 c.loop-left.invariant.gives;
       others = ap (drop (length ts)) h.6 ∙ (rest_stays fs i (length ts) (one_cell h.0 h.2) (omega arith) ∙ c.loop-left.invariant.others);
       stack = taken_so_far (on_stack c.args.stack.now) (on_stack c.loop-left.stack) (on_stack c.pass_one.new.stack) h.1 (length ts) i c.loop-left.left (omega arith) c.loop-left.invariant.within h.4 c.loop-left.invariant.stack;
-      room = c.in-Some.ensures.room ∙ c.loop-left.invariant.room;
+      room = c.in_ok-pass_one.ensures.room ∙ c.loop-left.invariant.room;
     }
 
-pub returns-in-None-clause-passes : goal.returns-in-None-clause-passes
-returns-in-None-clause-passes c =
-    gives_none c.args.types.now (on_top (length c.args.types.now) (on_stack c.args.stack.now)) (c.loop-left.left - 1) c.loop-left.left (on_stack c.loop-left.stack) (on_stack c.pass_one.new.stack) _
-    (omega arith) c.loop-left.invariant.within c.loop-left.invariant.gives c.in-None.ensures.passes.1
+pub returns-in_err-pass_one-clause-passes : goal.returns-in_err-pass_one-clause-passes
+returns-in_err-pass_one-clause-passes c =
+    rw c.from_residual.ensures
+    (gives_none c.args.types.now (on_top (length c.args.types.now) (on_stack c.args.stack.now)) (c.loop-left.left - 1) c.loop-left.left (on_stack c.loop-left.stack) (on_stack c.pass_one.new.stack) _
+    (omega arith) c.loop-left.invariant.within c.loop-left.invariant.gives c.in_err-pass_one.ensures.passes.1)

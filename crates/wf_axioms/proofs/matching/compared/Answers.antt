@@ -1,6 +1,6 @@
 use Rattle.std.proofs.Common.{◌≡◌, sym, subst, None}
 use Rattle.wf_ast.specs.TypedTree.{ValueTree}
-use Rattle.wf_ast.specs.TypedTrees.{cond_in, place_of_node, signs_of_node, sort_of, type_of_node}
+use Rattle.wf_ast.specs.TypedTrees.{cond_in, place_of_node, signs_of_node, operator_kind, type_of_node}
 use Rattle.wf_ast.specs.TypedInvariant.{is_expr}
 use Rattle.wf_facts_exprs.proofs.PassLemmas.{both_of}
 use Rattle.wf_axioms.specs.Matching.{comparison_in}
@@ -13,4 +13,4 @@ returns-in_err-cmp-clause-trees c =
     let P : ValueTree → Type 0 = λ t. None ≡ comparison_in (cond_in t) in
     rw c.from_residual.ensures
     (subst P (sym c.requires.tree)
-    (chain-none c.args.t.now (place_of_node c.args.t.now c.args.e.0) (signs_of_node c.args.t.now c.args.e.0) (type_of_node c.args.t.now c.args.e.0) (sort_of c.args.op) c.args.parts.now c.requires.fits n.1 c.in_err-cmp.ensures))
+    (chain-none c.args.t.now (place_of_node c.args.t.now c.args.e.0) (signs_of_node c.args.t.now c.args.e.0) (type_of_node c.args.t.now c.args.e.0) (operator_kind c.args.op) c.args.parts.now c.requires.fits n.1 c.in_err-cmp.ensures))

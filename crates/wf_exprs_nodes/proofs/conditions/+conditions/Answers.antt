@@ -1,6 +1,6 @@
 use Rattle.std.proofs.Common.{◌∙◌, List, sym, ap, subst, get_or, arith, rules, refl}
 use Rattle.wf_ast.specs.TypedTree.{ValueTree}
-use Rattle.wf_ast.specs.TypedTrees.{cond_in, sort_of, type_of_node, place_of_node, signs_of_node}
+use Rattle.wf_ast.specs.TypedTrees.{cond_in, operator_kind, type_of_node, place_of_node, signs_of_node}
 use Rattle.wf_ast.specs.TypedInvariant.{is_expr, is_logical}
 use Rattle.wf_ast.specs.NodeKinds.{node_cond}
 use Rattle.wf_ast.proofs.Arena.{both_true}
@@ -23,7 +23,7 @@ chain-junction-requires t c =
     let nodes = c.args.scope.now.nodes in
     let e = c.args.e in
     let j = sym c.joins.ensures ∙ c.if-joins.true in
-    let a = of_conditions nodes e.0 (type_of_node nodes e.0) (sort_of c.args.op) c.args.parts.now (condition_below nodes e c.requires.node) j c.requires.fits c.requires.below in
+    let a = of_conditions nodes e.0 (type_of_node nodes e.0) (operator_kind c.args.op) c.args.parts.now (condition_below nodes e c.requires.node) j c.requires.fits c.requires.below in
     (search rules, (c.requires.tree, (j, (c.requires.below, (a.conditions, a.some)))))
 
 pub chain-comparison-requires : goal.chain-comparison-requires
@@ -31,7 +31,7 @@ chain-comparison-requires t c =
     let nodes = c.args.scope.now.nodes in
     let e = c.args.e in
     let j = sym c.joins.ensures ∙ c.if-joins.false in
-    let o = of_comparison nodes (type_of_node nodes e.0) (sort_of c.args.op) c.args.parts.now (both_true (is_expr nodes e) (is_logical (type_of_node nodes e.0)) c.requires.node).1 j c.requires.fits in
+    let o = of_comparison nodes (type_of_node nodes e.0) (operator_kind c.args.op) c.args.parts.now (both_true (is_expr nodes e) (is_logical (type_of_node nodes e.0)) c.requires.node).1 j c.requires.fits in
     record { tree = c.requires.tree; ordering = o; fits = c.requires.fits; there = all_there nodes e.0 c.args.parts.now (condition_below nodes e c.requires.node) c.requires.below; trees = c.requires.trees }
 
 pub junction-loop-i-init : goal.junction-loop-i-init
@@ -84,6 +84,6 @@ junction-returns-clause-made t c =
     let inv = c.loop-i.invariant in
     let others = subst (λ (ts : Operands). HasOperands c.loop-i.u c.loop-i.others ts) (behind_end names nodes c.args.parts.now c.loop-i.i inv.so_far _ c.loop-i-test.false inv.left) inv.has in
     retell _ _ _ c.operation.result
-    (junction_is names nodes (place_of_node nodes e.0) (signs_of_node nodes e.0) (type_of_node nodes e.0) (sort_of c.args.op) c.args.parts.now (record { 0 = 0 }) _ _ _ _
+    (junction_is names nodes (place_of_node nodes e.0) (signs_of_node nodes e.0) (type_of_node nodes e.0) (operator_kind c.args.op) c.args.parts.now (record { 0 = 0 }) _ _ _ _
     c.requires.joining c.requires.some inv.one inv.two others
     ∙ ap (λ (x : ValueTree). lowered_cond names (cond_in x)) (sym c.requires.tree)) c.operation.ensures.made

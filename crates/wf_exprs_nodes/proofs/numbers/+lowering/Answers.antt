@@ -5,7 +5,7 @@ use Rattle.wf_base.specs.BaseTable.{bits_of, row_of}
 use Rattle.wf_ast.specs.WellTyped.{same_mark}
 use Rattle.wf_ast.specs.declared.numbers.ExprId.{ExprId}
 use Rattle.wf_ast.specs.TypedTree.{ValueTree}
-use Rattle.wf_ast.specs.TypedTrees.{answer_of, chain_of, end_in, num_in, num_type, sort_of, tree_of, type_of_node, place_of_node, signs_of_node}
+use Rattle.wf_ast.specs.TypedTrees.{answer_of, chain_of, end_in, num_in, num_type, operator_kind, tree_of, type_of_node, place_of_node, signs_of_node}
 use Rattle.wf_ast.specs.TypedInvariant.{chain_fits, has_kind, is_expr, is_given, is_list, is_numeric}
 use Rattle.wf_ast.specs.NodeKinds.{node_number, node_slice}
 use Rattle.wf_ast.proofs.Arena.{both_true}
@@ -26,8 +26,8 @@ pub cells-unreachable-requires-in-Chain : goal.cells-unreachable-requires-in-Cha
 cells-unreachable-requires-in-Chain t c =
     let nodes = c.args.scope.now.nodes in
     let ty = type_of_node nodes c.args.e.0 in
-    let f : chain_fits nodes (sort_of c.in-Chain.op) c.in-Chain.parts ty ≡ true = search rules in
-    no_slice_chain nodes ty (sort_of c.in-Chain.op) c.in-Chain.parts (both_true (is_expr nodes c.args.e) (is_list ty) c.requires).1 f
+    let f : chain_fits nodes (operator_kind c.in-Chain.op) c.in-Chain.parts ty ≡ true = search rules in
+    no_slice_chain nodes ty (operator_kind c.in-Chain.op) c.in-Chain.parts (both_true (is_expr nodes c.args.e) (is_list ty) c.requires).1 f
 
 pub cells-unreachable-requires-in-Base : goal.cells-unreachable-requires-in-Base
 cells-unreachable-requires-in-Base t c =
@@ -78,7 +78,7 @@ linked_chain-loop-i-init t c =
       grows = c.number.ensures.grows;
       so_far = lowered names (node_number nodes (get_or c.args.parts.now 0 (record { 0 = 0 })));
       has = c.in_ok-left.ensures.made;
-      rest = links_begin names nodes (place_of_node nodes e.0) (signs_of_node nodes e.0) (type_of_node nodes e.0) (sort_of c.args.op) c.args.parts.now (record { 0 = 0 }) c.requires.arithmetic c.requires.apart c.requires.some
+      rest = links_begin names nodes (place_of_node nodes e.0) (signs_of_node nodes e.0) (type_of_node nodes e.0) (operator_kind c.args.op) c.args.parts.now (record { 0 = 0 }) c.requires.arithmetic c.requires.apart c.requires.some
           ∙ ap (λ (x : ValueTree). lowered names (num_in x)) (sym c.requires.tree);
     }
 
@@ -97,8 +97,8 @@ linked_chain-loop-i-preserved t c =
       grows = grows_on (grows_on inv.grows c.number-in-loop-i.ensures.grows) c.link.ensures.grows;
       so_far = _;
       has = c.in_ok-left-2.ensures.made;
-      rest = links_next names nodes (sort_of c.args.op) own inv.so_far _ _ c.args.parts.now c.loop-i.i (record { 0 = 0 }) c.loop-i-test.true inv.rest
-          (link_is names (sort_of c.args.op) (bits_of c.args.width) own c.number-in-loop-i.new.u c.loop-i.left c.in_ok-right.right inv.so_far right c.requires.width
+      rest = links_next names nodes (operator_kind c.args.op) own inv.so_far _ _ c.args.parts.now c.loop-i.i (record { 0 = 0 }) c.loop-i-test.true inv.rest
+          (link_is names (operator_kind c.args.op) (bits_of c.args.width) own c.number-in-loop-i.new.u c.loop-i.left c.in_ok-right.right inv.so_far right c.requires.width
           (rated_kept _ _ _ _ c.number-in-loop-i.ensures.grows inv.has) c.in_ok-right.ensures.made);
     }
 
@@ -106,10 +106,10 @@ pub number-chain-requires : goal.number-chain-requires
 number-chain-requires t c =
     let nodes = c.args.scope.now.nodes in
     let e = c.args.e in
-    let fits : chain_fits nodes (sort_of c.in-Chain.op) c.as_slice.result.now (type_of_node nodes e.0) ≡ true = search rules in
+    let fits : chain_fits nodes (operator_kind c.in-Chain.op) c.as_slice.result.now (type_of_node nodes e.0) ≡ true = search rules in
     let below : list_all (λ (p : ExprId). nat_lt p.0 e.0) c.as_slice.result.now ≡ true = search rules in
-    let tree : tree_of nodes e ≡ chain_of (place_of_node nodes e.0) (signs_of_node nodes e.0) (type_of_node nodes e.0) (sort_of c.in-Chain.op) (map (tree_of nodes) c.as_slice.result.now) = search rules in
-    let a = of_numbers nodes e.0 (type_of_node nodes e.0) (sort_of c.in-Chain.op) c.as_slice.result.now (number_below nodes e c.requires) (both_true (is_expr nodes e) (is_numeric (type_of_node nodes e.0)) c.requires).1 fits below in
+    let tree : tree_of nodes e ≡ chain_of (place_of_node nodes e.0) (signs_of_node nodes e.0) (type_of_node nodes e.0) (operator_kind c.in-Chain.op) (map (tree_of nodes) c.as_slice.result.now) = search rules in
+    let a = of_numbers nodes e.0 (type_of_node nodes e.0) (operator_kind c.in-Chain.op) c.as_slice.result.now (number_below nodes e c.requires) (both_true (is_expr nodes e) (is_numeric (type_of_node nodes e.0)) c.requires).1 fits below in
     (search rules, (c.requires, (tree, (below, (a.arithmetic_sort, (a.numbers, a.some))))))
 
 pub number-answer-requires : goal.number-answer-requires
@@ -175,6 +175,6 @@ operation_chain-returns-clause-made t c =
     let inv = c.loop-i.invariant in
     let others = subst (λ (ts : Operands). HasOperands c.loop-i.u c.loop-i.others ts) (behind_end names nodes c.args.parts.now c.loop-i.i inv.so_far _ c.loop-i-test.false inv.left) inv.has in
     retell_rated _ _ _ c.number_operation.result
-    (operation_is names nodes (place_of_node nodes e.0) (signs_of_node nodes e.0) (type_of_node nodes e.0) (sort_of c.args.op) c.args.parts.now (record { 0 = 0 }) _ _ _ _ (bits_of c.args.width)
+    (operation_is names nodes (place_of_node nodes e.0) (signs_of_node nodes e.0) (type_of_node nodes e.0) (operator_kind c.args.op) c.args.parts.now (record { 0 = 0 }) _ _ _ _ (bits_of c.args.width)
     c.requires.arithmetic c.requires.repeats c.requires.some c.requires.width inv.one inv.two others
     ∙ ap (λ (x : ValueTree). lowered names (num_in x)) (sym c.requires.tree)) c.number_operation.ensures.made

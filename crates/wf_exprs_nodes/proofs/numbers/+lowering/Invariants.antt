@@ -1,5 +1,5 @@
 use Rattle.std.proofs.Common.{◌≡◌, ◌+◌, ◌*◌, ◌≤◌, drop, get_or, map}
-use Rattle.wf_ast.specs.TypedTrees.{num_type, sort_of, type_of_node}
+use Rattle.wf_ast.specs.TypedTrees.{num_type, operator_kind, type_of_node}
 use Rattle.wf_ast.specs.NodeKinds.{node_number}
 use Rattle.c_text.specs.CTree.{Operands}
 use Rattle.wf_exprs.specs.Exprs.{Rated, lowered}
@@ -61,5 +61,5 @@ invariant-linked_chain-loop-i l = record {
   grows : Grows l.fn.u l.u;
   so_far : Rated;
   has : HasRated l.u l.left so_far;
-  rest : chain_on l.scope.names (sort_of l.op) (num_type (type_of_node l.scope.nodes l.fn.e.0)).bits so_far (map (node_number l.scope.nodes) (drop l.i l.parts)) ≡ lowered l.scope.names (node_number l.scope.nodes l.fn.e);
+  rest : chain_on l.scope.names (operator_kind l.op) (num_type (type_of_node l.scope.nodes l.fn.e.0)).bits so_far (map (node_number l.scope.nodes) (drop l.i l.parts)) ≡ lowered l.scope.names (node_number l.scope.nodes l.fn.e);
 }

@@ -2,7 +2,7 @@ use Rattle.std.proofs.Common.{◌≡◌, ◌&&◌, true, rules}
 use Rattle.wf_base.specs.declared.marks.Mark.TheVariants.{Pure}
 use Rattle.wf_base.specs.BaseTable.{row_of}
 use Rattle.wf_ast.specs.WellTyped.{same_mark}
-use Rattle.wf_ast.specs.TypedTrees.{sort_of, type_of_node}
+use Rattle.wf_ast.specs.TypedTrees.{operator_kind, type_of_node}
 use Rattle.wf_ast.specs.TypedInvariant.{chain_fits, has_kind, is_expr, is_given, is_state}
 use Rattle.wf_ast.proofs.Arena.{both_true}
 use Rattle.wf_ast.proofs.ChainKinds.{no_status_chain}
@@ -13,8 +13,8 @@ pub unreachable-requires-in-Chain : goal.unreachable-requires-in-Chain
 unreachable-requires-in-Chain c =
     let nodes = c.args.scope.now.nodes in
     let ty = type_of_node nodes c.args.e.0 in
-    let f : chain_fits nodes (sort_of c.in-Chain.op) c.in-Chain.parts ty ≡ true = search rules in
-    no_status_chain nodes ty (sort_of c.in-Chain.op) c.in-Chain.parts (both_true (is_expr nodes c.args.e) (is_state ty) c.requires).1 f
+    let f : chain_fits nodes (operator_kind c.in-Chain.op) c.in-Chain.parts ty ≡ true = search rules in
+    no_status_chain nodes ty (operator_kind c.in-Chain.op) c.in-Chain.parts (both_true (is_expr nodes c.args.e) (is_state ty) c.requires).1 f
 
 pub unreachable-requires-in-Base : goal.unreachable-requires-in-Base
 unreachable-requires-in-Base c =

@@ -8,7 +8,7 @@ use Rattle.std.specs.Prelude.{Ok, Err}
 use Rattle.std.proofs.lemmas.Result.{err_from_is_err_and}
 use Rattle.wf_text.specs.declared.rules.Rule.TheVariants.{B2}
 use Rattle.wf_ast.specs.TypedTree.{ValueTree, less, at_most, number}
-use Rattle.wf_ast.specs.TypedTrees.{chain_of, first_sign, num_in, num_type, sort_of, tree_of, type_of_node, place_of_node, signs_of_node, no_place}
+use Rattle.wf_ast.specs.TypedTrees.{chain_of, first_sign, num_in, num_type, operator_kind, tree_of, type_of_node, place_of_node, signs_of_node, no_place}
 use Rattle.wf_ast.specs.TypedInvariant.{chain_fits, is_expr}
 use Rattle.wf_ast.specs.NodeKinds.{is_number_at, node_number, node_slice}
 use Rattle.wf_ast.specs.OperatorForms.{is_arithmetic}
@@ -93,33 +93,33 @@ judge_next-returns-else-lies_in-clause-answer t c =
 
 pub judge_rule-judge_chain-requires : goal.judge_rule-judge_chain-requires
 judge_rule-judge_chain-requires t c =
-    let fits : chain_fits c.args.t.now (sort_of c.in-Chain.op) c.as_slice.result.now (type_of_node c.args.t.now c.args.e.0) ≡ true = search rules in
+    let fits : chain_fits c.args.t.now (operator_kind c.in-Chain.op) c.as_slice.result.now (type_of_node c.args.t.now c.args.e.0) ≡ true = search rules in
     let below : list_all (λ (p : ExprId). nat_lt p.0 c.args.e.0) c.as_slice.result.now ≡ true = search rules in
-    let tree : tree_of c.args.t.now c.args.e ≡ chain_of (place_of_node c.args.t.now c.args.e.0) (signs_of_node c.args.t.now c.args.e.0) (type_of_node c.args.t.now c.args.e.0) (sort_of c.in-Chain.op) (map (tree_of c.args.t.now) c.as_slice.result.now) = search rules in
-    let a = is-arith c.args.t.now c.args.e.0 (type_of_node c.args.t.now c.args.e.0) (sort_of c.in-Chain.op) c.as_slice.result.now (number-below c.args.t.now c.args.e c.requires.node) (both_of (is_expr c.args.t.now c.args.e) _ c.requires.node).1 fits below in
+    let tree : tree_of c.args.t.now c.args.e ≡ chain_of (place_of_node c.args.t.now c.args.e.0) (signs_of_node c.args.t.now c.args.e.0) (type_of_node c.args.t.now c.args.e.0) (operator_kind c.in-Chain.op) (map (tree_of c.args.t.now) c.as_slice.result.now) = search rules in
+    let a = is-arith c.args.t.now c.args.e.0 (type_of_node c.args.t.now c.args.e.0) (operator_kind c.in-Chain.op) c.as_slice.result.now (number-below c.args.t.now c.args.e c.requires.node) (both_of (is_expr c.args.t.now c.args.e) _ c.requires.node).1 fits below in
     (search rules, (c.requires.known, (c.requires.node, (tree, (fits, (below, (a.arithmetic_sort, a.numbers)))))))
 
 pub judge_rule-returns-in-Chain-clause-small : goal.judge_rule-returns-in-Chain-clause-small
 judge_rule-returns-in-Chain-clause-small t c =
-    let fits : chain_fits c.args.t.now (sort_of c.in-Chain.op) c.as_slice.result.now (type_of_node c.args.t.now c.args.e.0) ≡ true = search rules in
-    let tree : tree_of c.args.t.now c.args.e ≡ chain_of (place_of_node c.args.t.now c.args.e.0) (signs_of_node c.args.t.now c.args.e.0) (type_of_node c.args.t.now c.args.e.0) (sort_of c.in-Chain.op) (map (tree_of c.args.t.now) c.as_slice.result.now) = search rules in
-    let o = is-operator c.args.t.now (tree_of c.args.t.now) (place_of_node c.args.t.now c.args.e.0) (signs_of_node c.args.t.now c.args.e.0) (type_of_node c.args.t.now c.args.e.0) (sort_of c.in-Chain.op) c.as_slice.result.now (both_of (is_expr c.args.t.now c.args.e) _ c.requires.node).1 fits in
+    let fits : chain_fits c.args.t.now (operator_kind c.in-Chain.op) c.as_slice.result.now (type_of_node c.args.t.now c.args.e.0) ≡ true = search rules in
+    let tree : tree_of c.args.t.now c.args.e ≡ chain_of (place_of_node c.args.t.now c.args.e.0) (signs_of_node c.args.t.now c.args.e.0) (type_of_node c.args.t.now c.args.e.0) (operator_kind c.in-Chain.op) (map (tree_of c.args.t.now) c.as_slice.result.now) = search rules in
+    let o = is-operator c.args.t.now (tree_of c.args.t.now) (place_of_node c.args.t.now c.args.e.0) (signs_of_node c.args.t.now c.args.e.0) (type_of_node c.args.t.now c.args.e.0) (operator_kind c.in-Chain.op) c.as_slice.result.now (both_of (is_expr c.args.t.now c.args.e) _ c.requires.node).1 fits in
     λ h. let k : true ≡ false = sym o ∙ ap (λ (t : ValueTree). is_operator (num_in t)) (sym tree) ∙ h in absurd (cc (k))
 
 pub judge_chain-returns-in_err-r : goal.judge_chain-returns-in_err-r
 judge_chain-returns-in_err-r t c =
     let r = err_from_is_err_and c.from_residual.result c.from_residual.ensures.1 in
-    let a = is-arith c.args.t.now c.args.e.0 (type_of_node c.args.t.now c.args.e.0) (sort_of c.args.op) c.args.parts.now (number-below c.args.t.now c.args.e c.requires.node) (both_of (is_expr c.args.t.now c.args.e) _ c.requires.node).1 c.requires.fits c.requires.below in
+    let a = is-arith c.args.t.now c.args.e.0 (type_of_node c.args.t.now c.args.e.0) (operator_kind c.args.op) c.args.parts.now (number-below c.args.t.now c.args.e c.requires.node) (both_of (is_expr c.args.t.now c.args.e) _ c.requires.node).1 c.requires.fits c.requires.below in
     let R = λ (t : ValueTree). Err c.in_err-r.field-0.0 ≡ ruled (claims_in c.args.t.now c.args.facts.now) (num_in t) in
     rw (r.1, r.2) (record {
-      answer = subst R (sym c.requires.tree) (first-refused (claims_in c.args.t.now c.args.facts.now) c.args.t.now (place_of_node c.args.t.now c.args.e.0) (signs_of_node c.args.t.now c.args.e.0) (type_of_node c.args.t.now c.args.e.0) (sort_of c.args.op) c.args.parts.now c.in_err-r.field-0.0 c.requires.arithmetic a.some (sym c.in_err-r.was ∙ c.judge.ensures.answer));
+      answer = subst R (sym c.requires.tree) (first-refused (claims_in c.args.t.now c.args.facts.now) c.args.t.now (place_of_node c.args.t.now c.args.e.0) (signs_of_node c.args.t.now c.args.e.0) (type_of_node c.args.t.now c.args.e.0) (operator_kind c.args.op) c.args.parts.now c.in_err-r.field-0.0 c.requires.arithmetic a.some (sym c.in_err-r.was ∙ c.judge.ensures.answer));
     })
 
 pub judge_chain-loop-i-init : goal.judge_chain-loop-i-init
 judge_chain-loop-i-init t c =
-    let a = is-arith c.args.t.now c.args.e.0 (type_of_node c.args.t.now c.args.e.0) (sort_of c.args.op) c.args.parts.now (number-below c.args.t.now c.args.e c.requires.node) (both_of (is_expr c.args.t.now c.args.e) _ c.requires.node).1 c.requires.fits c.requires.below in
+    let a = is-arith c.args.t.now c.args.e.0 (type_of_node c.args.t.now c.args.e.0) (operator_kind c.args.op) c.args.parts.now (number-below c.args.t.now c.args.e c.requires.node) (both_of (is_expr c.args.t.now c.args.e) _ c.requires.node).1 c.requires.fits c.requires.below in
     let ok : Ok c.in_ok-r.r ≡ judged (claims_in c.args.t.now c.args.facts.now) (part_number c.args.t.now c.args.parts.now 0) = sym c.in_ok-r.was ∙ c.judge.ensures.answer in
-    let b = chain-begins (claims_in c.args.t.now c.args.facts.now) c.args.t.now (place_of_node c.args.t.now c.args.e.0) (signs_of_node c.args.t.now c.args.e.0) (type_of_node c.args.t.now c.args.e.0) (sort_of c.args.op) c.args.parts.now c.in_ok-r.r c.requires.arithmetic a.some ok in
+    let b = chain-begins (claims_in c.args.t.now c.args.facts.now) c.args.t.now (place_of_node c.args.t.now c.args.e.0) (signs_of_node c.args.t.now c.args.e.0) (type_of_node c.args.t.now c.args.e.0) (operator_kind c.args.op) c.args.parts.now c.in_ok-r.r c.requires.arithmetic a.some ok in
     record {
       from = omega arith;
       left = b ∙ ap (λ (t : ValueTree). ruled (claims_in c.args.t.now c.args.facts.now) (num_in t)) (sym c.requires.tree);
@@ -131,7 +131,7 @@ judge_chain-judge_next-requires t c =
     let within : c.loop-i.i < length c.args.parts.now = omega arith in
     let p = lt_from _ _ (item-true (λ (p : ExprId). nat_lt p.0 c.args.e.0) c.args.parts.now c.loop-i.i (record { 0 = 0 }) c.requires.below within) in
     let n = item-true (is_number_at c.args.t.now) c.args.parts.now c.loop-i.i (record { 0 = 0 }) c.requires.numbers within in
-    let A : Op → Type 0 = λ op. is_arithmetic (sort_of op) ≡ true in
+    let A : Op → Type 0 = λ op. is_arithmetic (operator_kind op) ≡ true in
     (search (rules, p), (c.requires.known, (n, (subst A (sym c.link_at.ensures.op) c.requires.arithmetic, (c.link_at.ensures.few, c.loop-i.invariant.small within)))))
 
 pub judge_chain-returns-in_err-r-2 : goal.judge_chain-returns-in_err-r-2

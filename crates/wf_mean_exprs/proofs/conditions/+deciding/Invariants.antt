@@ -1,5 +1,5 @@
 use Rattle.std.proofs.Common.{◌≡◌, ◌+◌, ◌*◌, ◌≤◌, drop, map}
-use Rattle.wf_ast.specs.TypedTrees.{sort_of}
+use Rattle.wf_ast.specs.TypedTrees.{operator_kind}
 use Rattle.wf_ast.specs.Value.{truth_of}
 use Rattle.wf_ast.specs.NodeKinds.{node_cond}
 use Rattle.wf_mean_exprs.specs.MachineState.{seen_from}
@@ -22,5 +22,5 @@ decreases-truth_of_junction l = 8 * l.e.0 + 5
 abbrev pub invariant-truth_of_junction-loop-i : goal.invariant-truth_of_junction-loop-i
 invariant-truth_of_junction-loop-i l = record {
   from : 1 ≤ l.i;
-  left : chain_truth (seen_from l.scene) (joins_both (sort_of l.op)) l.so_far (map (node_cond l.scene.package.now) (drop l.i l.parts)) ≡ truth_of (seen_from l.scene) (node_cond l.scene.package.now l.fn.e);
+  left : chain_truth (seen_from l.scene) (joins_both (operator_kind l.op)) l.so_far (map (node_cond l.scene.package.now) (drop l.i l.parts)) ≡ truth_of (seen_from l.scene) (node_cond l.scene.package.now l.fn.e);
 }

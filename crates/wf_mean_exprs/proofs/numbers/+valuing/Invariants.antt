@@ -1,5 +1,5 @@
 use Rattle.std.proofs.Common.{◌≡◌, ◌+◌, ◌*◌, ◌≤◌, drop, map}
-use Rattle.wf_ast.specs.TypedTrees.{num_type, sort_of, type_of_node}
+use Rattle.wf_ast.specs.TypedTrees.{num_type, operator_kind, type_of_node}
 use Rattle.wf_ast.specs.Value.{value}
 use Rattle.wf_ast.specs.OperatorForms.{arith_in}
 use Rattle.wf_ast.specs.NodeKinds.{node_number}
@@ -38,5 +38,5 @@ decreases-end_or l = 8 * l.e.0 + 5
 abbrev pub invariant-number_of_chain-loop-i : goal.invariant-number_of_chain-loop-i
 invariant-number_of_chain-loop-i l = record {
   from : 1 ≤ l.i;
-  left : chain_value (seen_from l.scene) (arith_in (sort_of l.op)) (num_type (type_of_node l.scene.package.now l.fn.e.0)).bits l.so_far (map (node_number l.scene.package.now) (drop l.i l.parts)) ≡ value (seen_from l.scene) (node_number l.scene.package.now l.fn.e);
+  left : chain_value (seen_from l.scene) (arith_in (operator_kind l.op)) (num_type (type_of_node l.scene.package.now l.fn.e.0)).bits l.so_far (map (node_number l.scene.package.now) (drop l.i l.parts)) ≡ value (seen_from l.scene) (node_number l.scene.package.now l.fn.e);
 }

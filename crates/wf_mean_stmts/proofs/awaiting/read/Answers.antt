@@ -1,6 +1,5 @@
-use Rattle.std.proofs.Common.{sym}
 use Rattle.std.proofs.lemmas.Option.{slice_get_within}
-use Rattle.wf_ast.specs.TypedTrees.{io_in, num_in, tree_of, optional_target}
+use Rattle.wf_ast.specs.TypedTrees.{io_in, tree_of, optional_target}
 use Rattle.wf_ast.specs.TypedTree.{take_number}
 use Rattle.wf_mean_exprs.specs.MachineState.{done_seen}
 use Rattle.wf_mean_stmts.proofs.AwaitLemmas.{io_await, no_io}

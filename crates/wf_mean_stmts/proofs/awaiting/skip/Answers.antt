@@ -1,7 +1,5 @@
-use Rattle.std.proofs.Common.{sym}
 use Rattle.std.proofs.lemmas.Option.{slice_get_within}
-use Rattle.wf_ast.specs.TypedTrees.{io_in, num_in, tree_of, optional_target}
-use Rattle.wf_ast.specs.TypedTree.{take_number}
+use Rattle.wf_ast.specs.TypedTrees.{io_in, num_in, tree_of}
 use Rattle.wf_mean_exprs.specs.MachineState.{done_seen}
 use Rattle.wf_mean_stmts.proofs.AwaitLemmas.{no_io, no_skip, skip_await}
 use Rattle.wf_mean_stmts.proofs.awaiting.skip.Goals as goal

@@ -1,5 +1,4 @@
-use Rattle.std.proofs.Common.{◌≡◌, ◌+◌, ◌<◌, ◌∙◌, sym, ap, ◌&&◌, arith, drop, length, List, Some, ℕ}
-use Rattle.std.specs.Prelude.{slice_get}
+use Rattle.std.proofs.Common.{◌+◌, ◌<◌, ◌∙◌, sym, ap, ◌&&◌, arith, drop, length}
 use Rattle.std.specs.List.{list_all}
 use Rattle.wf_meaning.specs.World.{fits_store}
 use Rattle.wf_mean_exprs.specs.MachineState.{span_seen, store_seen}

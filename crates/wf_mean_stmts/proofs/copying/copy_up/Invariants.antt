@@ -1,4 +1,4 @@
-use Rattle.std.proofs.Common.{◌≡◌, ◌≤◌}
+use Rattle.std.proofs.Common.{◌≡◌}
 use Rattle.wf_mean_exprs.specs.MachineState.{span_seen, store_seen}
 use Rattle.wf_mean_stmts.specs.Stages.{shape, vars_on}
 use Rattle.wf_mean_stmts.proofs.CopyLemmas.{CopiedUp}

@@ -1,4 +1,4 @@
-use Rattle.std.proofs.Common.{◌≡◌, ◌∙◌, ℕ, min, refl, sym, subst}
+use Rattle.std.proofs.Common.{◌≡◌, ◌∙◌, ℕ, min, refl, subst}
 use Rattle.wf_ast.specs.TypedTrees.{slice_in, optional_target, tree_of}
 use Rattle.wf_ast.specs.Value.{num}
 use Rattle.wf_meaning.specs.World.{Body, put_value}

@@ -1,7 +1,7 @@
-use Rattle.std.proofs.Common.{◌∙◌, refl, sym, ap, arith, subst}
+use Rattle.std.proofs.Common.{subst}
 use Rattle.std.proofs.lemmas.Option.{slice_get_within}
-use Rattle.wf_ast.specs.TypedTrees.{io_in, num_in, slice_in, optional_target, tree_of}
-use Rattle.wf_mean_stmts.specs.Stages.{body_on, vars_on}
+use Rattle.wf_ast.specs.TypedTrees.{io_in, slice_in, optional_target, tree_of}
+use Rattle.wf_mean_stmts.specs.Stages.{vars_on}
 use Rattle.wf_ast.specs.Value.{num}
 use Rattle.wf_meaning.specs.World.{Body, put_value}
 use Rattle.wf_mean_exprs.specs.MachineState.{span_seen}

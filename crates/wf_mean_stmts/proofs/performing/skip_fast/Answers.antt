@@ -1,7 +1,5 @@
-use Rattle.std.proofs.Common.{◌∙◌, refl, sym, ap, arith, subst}
 use Rattle.std.proofs.lemmas.Option.{slice_get_within}
-use Rattle.wf_ast.specs.TypedTrees.{io_in, num_in, slice_in, optional_target, tree_of}
-use Rattle.wf_mean_stmts.specs.Stages.{body_on, vars_on}
+use Rattle.wf_ast.specs.TypedTrees.{io_in, num_in, tree_of}
 use Rattle.wf_mean_stmts.proofs.PerformLemmas.{no_actual, no_io_skip, no_worst, skip_goes}
 use Rattle.wf_mean_stmts.proofs.performing.skip_fast.Goals as goal
 

@@ -1,4 +1,4 @@
-use Rattle.std.proofs.Common.{◌≡◌, ℕ, zero, suc, ◌<◌, Some, refl, arith}
+use Rattle.std.proofs.Common.{refl}
 use Rattle.wf_ast.specs.TypedTrees.{expr_trees}
 use Rattle.wf_meaning.proofs.examples.expressions_of_a_package.Goals as goal
 

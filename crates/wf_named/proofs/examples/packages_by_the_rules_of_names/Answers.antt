@@ -37,3 +37,7 @@ returns-clause-cycle c = refl
 pub returns-clause-holding_itself : goal.returns-clause-holding_itself
 unfolding well_named
 returns-clause-holding_itself c = refl
+
+pub returns-clause-struct_left_out : goal.returns-clause-struct_left_out
+unfolding well_named
+returns-clause-struct_left_out c = refl

@@ -1,4 +1,4 @@
-use Rattle.wf_names_cycles.proofs.HeldLemmas.{structs-decided}
+use Rattle.wf_names_cycles.proofs.StructLemmas.{structs-decided}
 use Rattle.wf_names_cycles.proofs.cycles_found.holds_itself.Goals as goal
 
 pub returns : goal.returns

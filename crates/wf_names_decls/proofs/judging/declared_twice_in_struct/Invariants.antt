@@ -1,4 +1,4 @@
-use Rattle.std.proofs.Common.{◌≡◌, [], drop, List}
+use Rattle.std.proofs.Common.{◌≡◌, [], drop, length, List}
 use Rattle.std.specs.List.{list_any}
 use Rattle.std.specs.BTreeSet.{contains}
 use Rattle.wf_text.specs.Precedence.{soonest}
@@ -6,7 +6,7 @@ use Rattle.wf_names_rules.specs.Pairs.{Pair, same_pair, pair_cmp}
 use Rattle.wf_names_decls.specs.DeclarationPass.{declared_twice_in_struct}
 use Rattle.wf_names_decls.proofs.judging.declared_twice_in_struct.Given as goal
 
-abbrev pub invariant-loop-method : goal.invariant-loop-method
-invariant-loop-method l =
+abbrev pub invariant-loop-owner : goal.invariant-loop-owner
+invariant-loop-owner l =
     (ps : List Pair) × ((p : Pair) → contains pair_cmp l.seen p ≡ list_any (same_pair p) ps)
-    × (soonest l.found (declared_twice_in_struct ps (drop l.method-index l.methods)) ≡ soonest l.fn.found (declared_twice_in_struct [] l.methods))
+    × (soonest l.found (declared_twice_in_struct ps (drop (length l.yielded) l.owners) (drop (length l.yielded) l.names)) ≡ soonest l.fn.found (declared_twice_in_struct [] l.owners l.names))

@@ -1,8 +1,7 @@
 use Rattle.std.proofs.Common.{◌≤◌, ◌∙◌, [], ◌∷◌, length, refl, sym, ap, arith}
 use Rattle.wf_ast.specs.ParsedTrees.{expr_trees, stmt_trees, decl_made}
 use Rattle.wf_named.specs.NamedParts.{named_package}
-use Rattle.wf_names_scopes.specs.Agreeing.{package_of}
-use Rattle.wf_names_rules.specs.Declarations.{methods_of}
+use Rattle.wf_names_rules.specs.Declarations.{methods_of, declared_in}
 use Rattle.wf_names_scopes.proofs.NextLemmas.{all-left, left-over, left-split, next-of}
 use Rattle.wf_names_scopes.proofs.PackageLemmas.{trees_made}
 use Rattle.wf_names_nodes.specs.Declaring.{with_others}
@@ -15,14 +14,14 @@ loop-number-init c = (c.requires.constants, all-left c.args.parsed.now (length c
 pub other_decl-requires-clause-next : goal.other_decl-requires-clause-next
 other_decl-requires-clause-next c =
     let p = c.args.parsed.now in
-    next-of (package_of p) (length c.loop-number.nodes.methods) (expr_trees p.exprs) (stmt_trees p.exprs p.stmts) p.decls c.loop-number.number c.decl.result.now c.decl.ensures.node c.loop-number.invariant.1
+    next-of (declared_in p) (length c.loop-number.nodes.methods) (expr_trees p.exprs) (stmt_trees p.exprs p.stmts) p.decls c.loop-number.number c.decl.result.now c.decl.ensures.node c.loop-number.invariant.1
 
 pub loop-number-preserved : goal.loop-number-preserved
 loop-number-preserved c =
     let es = expr_trees c.args.parsed.now.exprs in
     let ts = stmt_trees c.args.parsed.now.exprs c.args.parsed.now.stmts in
-    let step = other_next es ts c.args.parsed.now.decls c.loop-number.number c.decl.result.now c.decl.ensures.node (package_of c.args.parsed.now) (named_package c.loop-number.nodes) (named_package c.other_decl.new.nodes) c.in_ok-other_decl.ensures.added in
-    let d = package_of c.args.parsed.now in
+    let step = other_next es ts c.args.parsed.now.decls c.loop-number.number c.decl.result.now c.decl.ensures.node (declared_in c.args.parsed.now) (named_package c.loop-number.nodes) (named_package c.other_decl.new.nodes) c.in_ok-other_decl.ensures.added in
+    let d = declared_in c.args.parsed.now in
     let old = c.loop-number.nodes in
     let new = c.other_decl.new.nodes in
     let node = c.decl.result.now in
@@ -33,7 +32,7 @@ loop-number-preserved c =
 
 pub returns : goal.returns
 returns c =
-    let d = package_of c.args.parsed.now in
+    let d = declared_in c.args.parsed.now in
     let es = expr_trees c.args.parsed.now.exprs in
     let ts = stmt_trees c.args.parsed.now.exprs c.args.parsed.now.stmts in
     let over : length c.args.parsed.now.decls ≤ c.loop-number.number = omega (arith, c.loop-number-test.false, ap length c.decls.ensures) in

@@ -1,8 +1,7 @@
 use Rattle.std.proofs.Common.{◌∙◌, [], ◌∷◌, length, slice_get, ap}
 use Rattle.wf_ast.specs.ParsedTrees.{expr_trees, stmt_trees, fields_at, block_at}
 use Rattle.wf_named.specs.NamedParts.{named_package}
-use Rattle.wf_names_rules.specs.Declarations.{variables, locals_of}
-use Rattle.wf_names_scopes.specs.Agreeing.{package_of}
+use Rattle.wf_names_rules.specs.Declarations.{variables, locals_of, declared_in}
 use Rattle.wf_names_scopes.specs.Growing.{scope_in}
 use Rattle.wf_names_scopes.proofs.NextLemmas.{next-at}
 use Rattle.wf_names_resolve.specs.Package.{resolved_method}
@@ -14,7 +13,7 @@ use Rattle.wf_names_nodes.proofs.packages.next_method.Goals as goal
 
 pub returns-clause-added : goal.returns-clause-added
 returns-clause-added c =
-    let d = package_of c.args.parsed.now in
+    let d = declared_in c.args.parsed.now in
     let es = expr_trees c.args.parsed.now.exprs in
     let ts = stmt_trees c.args.parsed.now.exprs c.args.parsed.now.stmts in
     let args = variables (fields_at es c.args.method.args.now) in
@@ -26,7 +25,7 @@ returns-clause-added c =
 
 pub returns-clause-known : goal.returns-clause-known
 returns-clause-known c =
-    let d = package_of c.args.parsed.now in
+    let d = declared_in c.args.parsed.now in
     let es = expr_trees c.args.parsed.now.exprs in
     let ts = stmt_trees c.args.parsed.now.exprs c.args.parsed.now.stmts in
     let m = method_parsed es ts c.args.method.public c.args.method.owner c.args.method.name c.args.method.args.now c.args.method.gives.now c.args.method.body.now in

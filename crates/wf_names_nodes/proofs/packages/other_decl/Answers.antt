@@ -1,8 +1,8 @@
 use Rattle.wf_named.specs.NamedParts.{named_package}
-use Rattle.wf_names_scopes.specs.Agreeing.{package_of}
 use Rattle.wf_names_resolve.proofs.Growth.{ok_still}
 use Rattle.wf_names_nodes.proofs.PackageLemmas.{ok_equal_more, no_others, only_statuses, only_structs, only_methods}
 use Rattle.wf_names_nodes.proofs.packages.other_decl.Goals as goal
+use Rattle.wf_names_rules.specs.Declarations.{declared_in}
 
 pub returns-in-Status-clause-added : goal.returns-in-Status-clause-added
 returns-in-Status-clause-added c = rw c.in-Status.is (ok_equal_more c.put_status.result _ _ _ (only_statuses (named_package c.args.nodes.now) _) c.put_status.ensures)
@@ -11,7 +11,7 @@ pub returns-in-Status-clause-known : goal.returns-in-Status-clause-known
 returns-in-Status-clause-known c = ok_still c.put_status.result _ c.requires.constants
 
 pub returns-in-Const-clause-added : goal.returns-in-Const-clause-added
-returns-in-Const-clause-added c = rw c.in-Const.is (no_others (package_of c.args.parsed.now) (named_package c.args.nodes.now))
+returns-in-Const-clause-added c = rw c.in-Const.is (no_others (declared_in c.args.parsed.now) (named_package c.args.nodes.now))
 
 pub returns-in-Struct-clause-added : goal.returns-in-Struct-clause-added
 returns-in-Struct-clause-added c =

@@ -14,6 +14,5 @@ returns c =
       methods = t.methods;
       method_names = t.method_names;
       publics = t.publics;
-      args = t.args;
       variables = t.variables;
     }) c.add_variable.ensures

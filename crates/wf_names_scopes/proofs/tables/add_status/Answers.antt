@@ -12,6 +12,5 @@ returns c = λ d p. record {
   methods = p.methods;
   method_names = p.method_names;
   publics = p.publics;
-  args = p.args;
   variables = p.variables;
 }

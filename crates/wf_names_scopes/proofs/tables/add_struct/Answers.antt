@@ -26,7 +26,6 @@ returns-then-branch c =
       methods = p.methods;
       method_names = p.method_names;
       publics = p.publics;
-      args = p.args;
       variables = p.variables;
     }) c.add_fields.ensures.sorts c.add_fields.ensures.places
 
@@ -45,6 +44,5 @@ returns-else-branch c =
       methods = p.methods;
       method_names = p.method_names;
       publics = p.publics;
-      args = p.args;
       variables = p.variables;
     }

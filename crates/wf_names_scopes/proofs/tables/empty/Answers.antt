@@ -11,6 +11,5 @@ returns c = λ texts. record {
   methods = λ owner text. rw c.new-2.ensures.empty refl;
   method_names = λ text. rw c.new-3.ensures.empty refl;
   publics = c.new-4.ensures.items;
-  args = rw c.new-5.ensures.items refl;
-  variables = rw c.new-6.ensures.items tt;
+  variables = rw c.new-5.ensures.items tt;
 }

@@ -5,10 +5,9 @@ use Rattle.wf_ast.specs.ParsedParts.{Parsed}
 use Rattle.wf_ast.specs.ParsedTree.{ResultTree, BlockTree}
 use Rattle.wf_ast.specs.ParsedTrees.{expr_trees, stmt_trees, fields_at, result_at, block_at}
 use Rattle.wf_names_rules.specs.Called.{with_calls}
-use Rattle.wf_names_rules.specs.Declarations.{Declared, Method, variables, locals_of}
+use Rattle.wf_names_rules.specs.Declarations.{Declared, Method, variables, locals_of, declared_in}
 use Rattle.wf_names_rules.specs.Meanings.{known_at}
 use Rattle.wf_names_rules.specs.Uses.{method_scope, method_uses}
-use Rattle.wf_names_scopes.specs.Agreeing.{package_of}
 use Rattle.wf_names_scopes.specs.Growing.{AreNext}
 use Rattle.wf_names_scopes.proofs.NextLemmas.{next-at}
 use Rattle.wf_names_scopes.proofs.PackageLemmas.{on_ok}
@@ -26,7 +25,7 @@ numbered d n rows m count next = ap (λ k. slice_get d.methods k) count ∙ next
 pub method_uses-requires-clause-inside : goal.method_uses-requires-clause-inside
 method_uses-requires-clause-inside c =
     let p = c.args.whole.now.parsed.now in
-    let d = package_of p in
+    let d = declared_in p in
     let m = method_here p c.args.node.now.public c.in-Method.of c.in-Method.name c.in-Method.args (result_at (expr_trees p.exprs) c.in-Method.gives) (block_at (stmt_trees p.exprs p.stmts) c.in-Method.body) in
     let next = rw c.in-Method.is at c.requires.next in
     let at = numbered d c.len.result (length c.args.bodies.now.rows.items) m (omega (arith, c.len.ensures)) next in
@@ -35,7 +34,7 @@ method_uses-requires-clause-inside c =
 pub returns-in_ok-method_uses-in-Method-clause-rows : goal.returns-in_ok-method_uses-in-Method-clause-rows
 returns-in_ok-method_uses-in-Method-clause-rows c =
     let p = c.args.whole.now.parsed.now in
-    let d = package_of p in
+    let d = declared_in p in
     let m = method_here p c.args.node.now.public c.in-Method.of c.in-Method.name c.in-Method.args (result_at (expr_trees p.exprs) c.in-Method.gives) (block_at (stmt_trees p.exprs p.stmts) c.in-Method.body) in
     let made = rw c.as_slice.ensures at c.in_ok-method_uses-in-Method.ensures.row in
     rw c.in-Method.is
@@ -44,7 +43,7 @@ returns-in_ok-method_uses-in-Method-clause-rows c =
 pub returns-in_ok-method_uses-in-Method-clause-constants : goal.returns-in_ok-method_uses-in-Method-clause-constants
 returns-in_ok-method_uses-in-Method-clause-constants c =
     let p = c.args.whole.now.parsed.now in
-    let d = package_of p in
+    let d = declared_in p in
     let m = method_here p c.args.node.now.public c.in-Method.of c.in-Method.name c.in-Method.args (result_at (expr_trees p.exprs) c.in-Method.gives) (block_at (stmt_trees p.exprs p.stmts) c.in-Method.body) in
     let next = rw c.in-Method.is at c.requires.next in
     let at = numbered d c.len.result (length c.args.bodies.now.rows.items) m (omega (arith, c.len.ensures)) next in

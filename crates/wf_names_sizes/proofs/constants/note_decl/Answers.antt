@@ -1,19 +1,18 @@
 use Rattle.std.proofs.Common.{◌≡◌, Some, ◌∷◌, [], ◌∙◌, sym, subst}
 use Rattle.wf_ast.specs.declared.parsed.DeclNode.{DeclNode}
 use Rattle.wf_ast.specs.ParsedTrees.{expr_trees, stmt_trees, expr_at, type_at, decl_made}
-use Rattle.wf_names_rules.specs.Declarations.{Constant, constants_of}
+use Rattle.wf_names_rules.specs.Declarations.{Constant, constants_of, declared_in}
 use Rattle.wf_names_rules.specs.ConstantValues.{Valued, constant_value, known_from}
-use Rattle.wf_names_sizes.specs.Packages.{of_package}
 use Rattle.wf_names_sizes.specs.ValuesBy.{Knows}
 use Rattle.wf_names_sizes.proofs.ValueLemmas.{knows_more, on_ok}
 use Rattle.wf_names_sizes.proofs.constants.note_decl.Goals as goal
 
 pub returns-in-Const : goal.returns-in-Const
 returns-in-Const c =
-    let d = of_package c.args.parsed.now in
+    let d = declared_in c.args.parsed.now in
     let es = expr_trees c.args.parsed.now.exprs in
     let ts = stmt_trees c.args.parsed.now.exprs c.args.parsed.now.stmts in
-    let number = c.constant_value-value.result in
+    let number = c.noted_value-value.result in
     on_ok c.note.result
     (
     λ grows known node h k.
@@ -24,7 +23,7 @@ returns-in-Const c =
     subst P same
     (
     rw c.in-Const.is
-    (knows_more c.args.constants.now c.note.new.constants known k1 number grows (c.constant_value-value.ensures known c.in-Const.name k) k)
+    (knows_more c.args.constants.now c.note.new.constants known k1 number grows (c.noted_value-value.ensures known c.in-Const.name k) k)
     )
     )
     c.note.ensures

@@ -16,4 +16,4 @@ decreases-chain_value l = 2 * above_links l.links.now
 abbrev pub invariant-chain_value-loop-link : goal.invariant-chain_value-loop-link
 invariant-chain_value-loop-link l =
     ChainStays l.op l.chain
-    × Runs l.chain (links_by (bytes_of l.parsed.texts) (constant_by l.constants l.hidden) l.op (started (sized l.fn.first)) (links_at (expr_trees l.parsed.exprs) (take l.link-index l.links)))
+    × Runs l.chain (links_by (bytes_of l.env.parsed.now.texts) (constant_by l.env) l.op (started (sized l.fn.first)) (links_at (expr_trees l.env.parsed.now.exprs) (take l.link-index l.links)))

@@ -5,16 +5,16 @@ use Rattle.wf_num.specs.CArithmetic.{c_quotient}
 use Rattle.wf_num.proofs.CLaws.{remainder-in}
 use Rattle.wf_num.proofs.c_arithmetic.c_rem.Goals as goal
 
-pub returns-in-Some-clause-exact : goal.returns-in-Some-clause-exact
-returns-in-Some-clause-exact c =
-    let quotient = c.in-Some.ensures.exact in
-    let whole = rem_is w128 c.value.result c.value-in-Some.result (search rules) (search rules) in
+pub returns-clause-exact : goal.returns-clause-exact
+returns-clause-exact c =
+    let quotient = c.in_ok-c_div.ensures.exact in
+    let whole = rem_is w128 c.value.result c.value-2.result (search rules) (search rules) in
     let defined : is_some (c_quotient c.args.ty c.args.a c.args.b) ≡ true = rw (← quotient) refl in
-    rw defined (cc (whole, c.value.ensures.exact, c.value-in-Some.ensures.exact, c.carried.ensures.exact))
+    rw defined (cc (whole, c.value.ensures.exact, c.value-2.ensures.exact, c.carried.ensures.exact))
 
-pub returns-in-Some-clause-undefined : goal.returns-in-Some-clause-undefined
-returns-in-Some-clause-undefined c =
-    let whole = rem_is w128 c.value.result c.value-in-Some.result (search rules) (search rules) in (
-      λ none. absurd (remainder-in c.args.ty c.args.a c.value-in-Some.result (rw (← c.value.ensures.exact, ← whole) (c.carried.ensures.undefined.0 none))),
-      λ undefined. absurd (cc (c.in-Some.ensures.undefined.1 undefined)),
+pub returns-clause-undefined : goal.returns-clause-undefined
+returns-clause-undefined c =
+    let whole = rem_is w128 c.value.result c.value-2.result (search rules) (search rules) in (
+      λ none. absurd (remainder-in c.args.ty c.args.a c.value-2.result (rw (← c.value.ensures.exact, ← whole) (c.carried.ensures.undefined.0 none))),
+      λ undefined. absurd (cc (c.in_ok-c_div.ensures.undefined.1 undefined)),
     )

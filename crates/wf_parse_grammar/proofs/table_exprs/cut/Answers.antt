@@ -1,4 +1,4 @@
-use Rattle.std.proofs.Common.{◌≡◌, ◌∙◌}
+use Rattle.std.proofs.Common.{◌∙◌}
 use Rattle.wf_parse_grammar.proofs.TableLemmas.{cut_of_expr}
 use Rattle.wf_parse_grammar.proofs.table_exprs.cut.Goals as goal
 

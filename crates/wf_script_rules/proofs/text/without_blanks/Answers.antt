@@ -1,4 +1,4 @@
-use Rattle.std.proofs.Common.{sym, ◌∙◌, ap, refl, drop, not}
+use Rattle.std.proofs.Common.{sym, ◌∙◌, ap, drop, not}
 use Rattle.wf_script_rules.specs.Text.{is_blank, words_of, begins}
 use Rattle.wf_script_rules.proofs.Places.{place, no_place}
 use Rattle.wf_script_rules.proofs.TextLaws.{skip_blanks, no_words, blanks_end}

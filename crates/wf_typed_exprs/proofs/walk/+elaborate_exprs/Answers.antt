@@ -4,7 +4,7 @@ use Rattle.wf_ast.proofs.AboveLemmas.{links_above, link_at_place}
 use Rattle.wf_ast.proofs.TreeLemmas.{LinksBelow-more}
 use Rattle.wf_named.specs.NamedTree.{index, slice, chain}
 use Rattle.wf_named.specs.NamedTrees.{expr_trees, expr_at, part_at, links_at, args_at, type_at}
-use Rattle.wf_types_rules.specs.declared.meanings.Value.{Value}
+use Rattle.wf_types_rules.specs.declared.meanings.PlacedMeaning.{PlacedMeaning}
 use Rattle.wf_types_rules.specs.Meanings.{variable}
 use Rattle.wf_types_rules.specs.ExprTypes.{meaning}
 use Rattle.wf_typed_tree.specs.ElaboratedExprs.{path_tree}
@@ -28,7 +28,7 @@ elaborate_chain-returns-clause-made t c =
     let es = expr_trees c.args.here.now.nodes.now.exprs in
     let nodes = c.elaborate_operands.new.nodes in
     let whole = chain c.args.op (expr_at es c.args.first) (links_at es c.args.links.now) c.args.at in
-    rw c.chain_meaning.ensures
+    rw c.chain.ensures
     (chain-makes s nodes c.args.op (expr_at es c.args.first) (links_at es c.args.links.now) c.args.at c.in_ok-operands.operands (right_kept s c.args.nodes.now nodes c.in_ok-operands.ensures.grows whole c.requires.right) c.in_ok-operands.ensures.all)
 
 pub elaborate_convert-elaborate_expr-requires : goal.elaborate_convert-elaborate_expr-requires
@@ -62,8 +62,8 @@ elaborate_index-returns-clause-made t c =
     let after = c.elaborate_expr.new.nodes in
     let all = grows_more c.args.nodes.now mid after c.in_ok-cells.ensures.grows c.in_ok-index.ensures.grows in
     let base = stands_kept (path_tree s p) (variable s p.of) mid after c.in_ok-cells.cells.node c.in_ok-index.ensures.grows c.in_ok-cells.ensures.stands in
-    let cells : c.in_ok-cells.cells.value.of ≡ variable s p.of = ap (λ (v : Value). v.of) c.in_ok-cells.ensures.value in
-    let place : c.in_ok-index.index.value.of ≡ meaning s i = ap (λ (v : Value). v.of) c.in_ok-index.ensures.value in
+    let cells : c.in_ok-cells.cells.value.of ≡ variable s p.of = ap (λ (v : PlacedMeaning). v.of) c.in_ok-cells.ensures.value in
+    let place : c.in_ok-index.index.value.of ≡ meaning s i = ap (λ (v : PlacedMeaning). v.of) c.in_ok-index.ensures.value in
     rw (c.unsigned.ensures, c.index_meaning.ensures, place, cells)
     (index-makes s after p i c.args.at c.in_ok-cells.cells.node c.in_ok-index.index.node (right_kept s c.args.nodes.now after all (index p i c.args.at) c.requires.right) base c.in_ok-index.ensures.stands)
 
@@ -137,7 +137,7 @@ elaborate_slice-returns-clause-made t c =
     let ends = c.in_ok-from in
     let all = grows_more c.args.nodes.now mid after c.in_ok-cells.ensures.grows ends.ensures.grows in
     let base = stands_kept (path_tree s p) (variable s p.of) mid after c.in_ok-cells.cells.node ends.ensures.grows c.in_ok-cells.ensures.stands in
-    let cells : c.in_ok-cells.cells.value.of ≡ variable s p.of = ap (λ (v : Value). v.of) c.in_ok-cells.ensures.value in
+    let cells : c.in_ok-cells.cells.value.of ≡ variable s p.of = ap (λ (v : PlacedMeaning). v.of) c.in_ok-cells.ensures.value in
     rw (c.unsigned.ensures, c.slice_meaning.ensures, c.value_of.ensures, c.value_of-2.ensures, c.node_of.ensures, c.node_of-2.ensures, cells)
     (slice-makes s after p (part_at es c.args.from) (part_at es c.args.to) c.args.at c.in_ok-cells.cells.node ends.from ends.to
     (right_kept s c.args.nodes.now after all (slice p (part_at es c.args.from) (part_at es c.args.to) c.args.at) c.requires.right) base ends.ensures.from ends.ensures.to)

@@ -1,6 +1,6 @@
 use Rattle.wf_typed_tree.proofs.Agreement.{package-is, method-is}
 use Rattle.wf_typed_tree.proofs.CallLaws.{typed-order}
-use Rattle.wf_typed_tree.proofs.DeclarationLaws.{typed-structs-whole, head-is}
+use Rattle.wf_typed_tree.proofs.DeclarationLaws.{typed-structs-whole, typed-struct-order, head-is}
 use Rattle.wf_typed_tree.proofs.EndLaws.{method-answers}
 use Rattle.wf_typed_tree.proofs.laws.declarations_keep_the_rules.Goals as goal
 
@@ -9,6 +9,9 @@ returns-clause-structs c p none named = typed-structs-whole p (package-is p none
 
 pub returns-clause-order : goal.returns-clause-order
 returns-clause-order c p none named = typed-order p (package-is p none named)
+
+pub returns-clause-struct_order : goal.returns-clause-struct_order
+returns-clause-struct_order c p none named = typed-struct-order p (package-is p none named)
 
 pub returns-clause-args : goal.returns-clause-args
 returns-clause-args c p none named n i m e = (head-is p m (method-is p (package-is p none named) i m e)).args

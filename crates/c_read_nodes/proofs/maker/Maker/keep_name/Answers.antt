@@ -1,6 +1,6 @@
 use Rattle.std.proofs.Common.{◌≡◌, ◌∷◌}
 use Rattle.std.proofs.lemmas.Result.{on_ok_weaker}
-use Rattle.c_read_nodes.specs.declared.values.Value.TheVariants as vals
+use Rattle.c_read_nodes.specs.declared.values.SemanticValue.TheVariants as vals
 use Rattle.c_read_nodes.proofs.Putting.{name_made, name_fit}
 use Rattle.c_read_nodes.proofs.maker.Maker.keep_name.Goals as goal
 

@@ -1,6 +1,6 @@
 use Rattle.std.proofs.Common.{◌≡◌, ◌∷◌}
 use Rattle.std.proofs.lemmas.Result.{on_ok_weaker}
-use Rattle.c_read_nodes.specs.declared.values.Value.TheVariants as vals
+use Rattle.c_read_nodes.specs.declared.values.SemanticValue.TheVariants as vals
 use Rattle.c_read_nodes.proofs.Putting.{text_made, text_fit}
 use Rattle.c_read_nodes.proofs.maker.Maker.keep_text.Goals as goal
 

@@ -1,6 +1,6 @@
 use Rattle.std.proofs.Common.{◌≡◌, ◌∷◌}
 use Rattle.std.proofs.lemmas.Result.{on_ok_weaker}
-use Rattle.c_read_nodes.specs.declared.values.Value.TheVariants as vals
+use Rattle.c_read_nodes.specs.declared.values.SemanticValue.TheVariants as vals
 use Rattle.c_read_nodes.proofs.Putting.{expr_made, expr_fit, expr_grew}
 use Rattle.c_read_nodes.proofs.maker.Maker.put_expr.Goals as goal
 

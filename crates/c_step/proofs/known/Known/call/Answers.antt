@@ -35,7 +35,7 @@ returns-in-Some-clause-replies c =
     let calls = c.in-Some.ensures in
     within_turns c.args.self.now (call_of c.args.what.now) c.args.turns c.in-Some.called calls (memory c.args.st.now.mem) (host_of c.args.host.now) c.call_on_host.result (memory c.call_on_host.new.st.mem, host_of c.call_on_host.new.host)
     (c.call_on_host.ensures.replies (loaded_of c.args.self.now) calls.means.of calls.means.method (call_of c.args.what.now) (own_number c.args.self.now (call_of c.args.what.now) c.args.turns c.in-Some.called calls)
-    (own_kind c.args.self.now (call_of c.args.what.now) c.args.turns c.in-Some.called calls) c.requires.ready.most refl c.requires.known.ok (subst (AreStatuses (loaded_of c.args.self.now).program c.args.self.now.surface) (sym c.as_slice.ensures.value) c.requires.known.statuses) c.requires.ready.coded)
+    (own_kind c.args.self.now (call_of c.args.what.now) c.args.turns c.in-Some.called calls) c.requires.ready.most refl c.requires.known.ok (subst (AreStatuses (loaded_of c.args.self.now).program c.args.self.now.surface.value) (sym c.as_slice.ensures.value) c.requires.known.statuses) c.requires.ready.coded)
 
 pub returns-in-Some-clause-kind : goal.returns-in-Some-clause-kind
 returns-in-Some-clause-kind c =
@@ -43,10 +43,10 @@ returns-in-Some-clause-kind c =
     call_is_fit c.args.self.now (call_of c.args.what.now) c.args.turns c.in-Some.called calls c.requires.known (memory c.args.st.now.mem) (host_of c.args.host.now) c.call_on_host.result (memory c.call_on_host.new.st.mem, host_of c.call_on_host.new.host)
     (within_turns c.args.self.now (call_of c.args.what.now) c.args.turns c.in-Some.called calls (memory c.args.st.now.mem) (host_of c.args.host.now) c.call_on_host.result (memory c.call_on_host.new.st.mem, host_of c.call_on_host.new.host)
     (c.call_on_host.ensures.replies (loaded_of c.args.self.now) calls.means.of calls.means.method (call_of c.args.what.now) (own_number c.args.self.now (call_of c.args.what.now) c.args.turns c.in-Some.called calls)
-    (own_kind c.args.self.now (call_of c.args.what.now) c.args.turns c.in-Some.called calls) c.requires.ready.most refl c.requires.known.ok (subst (AreStatuses (loaded_of c.args.self.now).program c.args.self.now.surface) (sym c.as_slice.ensures.value) c.requires.known.statuses) c.requires.ready.coded))
+    (own_kind c.args.self.now (call_of c.args.what.now) c.args.turns c.in-Some.called calls) c.requires.ready.most refl c.requires.known.ok (subst (AreStatuses (loaded_of c.args.self.now).program c.args.self.now.surface.value) (sym c.as_slice.ensures.value) c.requires.known.statuses) c.requires.ready.coded))
 
 pub returns-in-None-clause-replies : goal.returns-in-None-clause-replies
-returns-in-None-clause-replies c = ap (given c.args.self.now.surface (λ x. x)) (c.in-None.ensures (memory c.args.st.now.mem) (host_of c.args.host.now) c.args.turns)
+returns-in-None-clause-replies c = ap (given c.args.self.now.surface.value (λ x. x)) (c.in-None.ensures (memory c.args.st.now.mem) (host_of c.args.host.now) c.args.turns)
 
 pub returns-in-None-clause-kind : goal.returns-in-None-clause-kind
 returns-in-None-clause-kind c = undefined_fits c.args.self.now (call_of c.args.what.now) (length c.args.host.now.bufs) (length c.args.host.now.arrays) c.requires.can

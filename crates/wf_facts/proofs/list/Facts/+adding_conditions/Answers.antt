@@ -3,7 +3,7 @@ use Rattle.std.specs.Prelude.{OnOk, OnErr, slice_index_or}
 use Rattle.std.proofs.lemmas.Result.{err_from_is_err_and}
 use Rattle.wf_ast.specs.declared.numbers.ExprId.{ExprId}
 use Rattle.wf_ast.specs.TypedTree.{ValueTree}
-use Rattle.wf_ast.specs.TypedTrees.{cond_in, sort_of, type_of_node, place_of_node, signs_of_node}
+use Rattle.wf_ast.specs.TypedTrees.{cond_in, operator_kind, type_of_node, place_of_node, signs_of_node}
 use Rattle.wf_ast.specs.TypedInvariant.{is_expr}
 use Rattle.wf_ast.specs.NodeKinds.{node_cond}
 use Rattle.wf_facts_exprs.specs.Claims.{Claim, claims_in, facts_of, stands}
@@ -44,13 +44,13 @@ pub add_chain-add_all-requires : goal.add_chain-add_all-requires
 add_chain-add_all-requires t c =
     let n = both_of (is_expr c.args.t.now c.args.e) _ c.requires.condition in
     let inside : c.args.e.0 < length c.args.t.now.exprs = lt_from _ _ n.0 in
-    (search rules, (joined-conditions c.args.t.now c.args.e inside (type_of_node c.args.t.now c.args.e.0) (sort_of c.args.op) c.args.parts.now c.requires.fits (sym c.if-not-joins.ensures) c.requires.below, c.requires.over))
+    (search rules, (joined-conditions c.args.t.now c.args.e inside (type_of_node c.args.t.now c.args.e.0) (operator_kind c.args.op) c.args.parts.now c.requires.fits (sym c.if-not-joins.ensures) c.requires.below, c.requires.over))
 
 pub add_chain-returns-then-needs_all-clause-ok : goal.add_chain-returns-then-needs_all-clause-ok
 add_chain-returns-then-needs_all-clause-ok t c =
     let made : facts_of (node_cond c.args.t.now c.args.e) c.args.answer ≡ facts_of_all c.args.t.now c.args.answer c.args.parts.now =
     ap (λ (t : ValueTree). facts_of (cond_in t) c.args.answer) c.requires.tree
-    ∙ chain-all c.args.t.now c.args.answer (place_of_node c.args.t.now c.args.e.0) (signs_of_node c.args.t.now c.args.e.0) (type_of_node c.args.t.now c.args.e.0) (sort_of c.args.op) c.args.parts.now c.requires.fits (sym c.needs_all.ensures ∙ c.if-needs_all.true) in
+    ∙ chain-all c.args.t.now c.args.answer (place_of_node c.args.t.now c.args.e.0) (signs_of_node c.args.t.now c.args.e.0) (type_of_node c.args.t.now c.args.e.0) (operator_kind c.args.op) c.args.parts.now c.requires.fits (sym c.needs_all.ensures ∙ c.if-needs_all.true) in
     let P : List Claim → Type 0 = λ fs. OnOk c.add_all.result (claims_in c.args.t.now c.add_all.new.self.list ≡ all_added (claims_in c.args.t.now c.args.self.now.list) fs) in
     subst P (sym made) c.add_all.ensures.ok
 
@@ -58,7 +58,7 @@ pub add_chain-returns-then-needs_all-clause-full : goal.add_chain-returns-then-n
 add_chain-returns-then-needs_all-clause-full t c =
     let made : facts_of (node_cond c.args.t.now c.args.e) c.args.answer ≡ facts_of_all c.args.t.now c.args.answer c.args.parts.now =
     ap (λ (t : ValueTree). facts_of (cond_in t) c.args.answer) c.requires.tree
-    ∙ chain-all c.args.t.now c.args.answer (place_of_node c.args.t.now c.args.e.0) (signs_of_node c.args.t.now c.args.e.0) (type_of_node c.args.t.now c.args.e.0) (sort_of c.args.op) c.args.parts.now c.requires.fits (sym c.needs_all.ensures ∙ c.if-needs_all.true) in
+    ∙ chain-all c.args.t.now c.args.answer (place_of_node c.args.t.now c.args.e.0) (signs_of_node c.args.t.now c.args.e.0) (type_of_node c.args.t.now c.args.e.0) (operator_kind c.args.op) c.args.parts.now c.requires.fits (sym c.needs_all.ensures ∙ c.if-needs_all.true) in
     let P : List Claim → Type 0 = λ fs. OnErr c.add_all.result (StopsAt (claims_in c.args.t.now c.args.self.now.list) fs (claims_in c.args.t.now c.add_all.new.self.list)) in
     subst P (sym made) c.add_all.ensures.full
 
@@ -66,7 +66,7 @@ pub add_chain-returns-else-needs_all-clause-ok : goal.add_chain-returns-else-nee
 add_chain-returns-else-needs_all-clause-ok t c =
     let made : facts_of (node_cond c.args.t.now c.args.e) c.args.answer ≡ stands (node_cond c.args.t.now c.args.e) c.args.answer ∷ [] =
     ap (λ (t : ValueTree). facts_of (cond_in t) c.args.answer) c.requires.tree
-    ∙ chain-whole c.args.t.now c.args.answer (place_of_node c.args.t.now c.args.e.0) (signs_of_node c.args.t.now c.args.e.0) (type_of_node c.args.t.now c.args.e.0) (sort_of c.args.op) c.args.parts.now c.requires.fits (sym c.if-not-joins.ensures) (sym c.needs_all.ensures ∙ c.if-needs_all.false)
+    ∙ chain-whole c.args.t.now c.args.answer (place_of_node c.args.t.now c.args.e.0) (signs_of_node c.args.t.now c.args.e.0) (type_of_node c.args.t.now c.args.e.0) (operator_kind c.args.op) c.args.parts.now c.requires.fits (sym c.if-not-joins.ensures) (sym c.needs_all.ensures ∙ c.if-needs_all.false)
     ∙ ap (λ (t : ValueTree). stands (cond_in t) c.args.answer ∷ []) (sym c.requires.tree) in
     let P : List Claim → Type 0 = λ fs. OnOk c.add_whole.result (claims_in c.args.t.now c.add_whole.new.self.list ≡ all_added (claims_in c.args.t.now c.args.self.now.list) fs) in
     subst P (sym made) c.add_whole.ensures.ok
@@ -75,7 +75,7 @@ pub add_chain-returns-else-needs_all-clause-full : goal.add_chain-returns-else-n
 add_chain-returns-else-needs_all-clause-full t c =
     let made : facts_of (node_cond c.args.t.now c.args.e) c.args.answer ≡ stands (node_cond c.args.t.now c.args.e) c.args.answer ∷ [] =
     ap (λ (t : ValueTree). facts_of (cond_in t) c.args.answer) c.requires.tree
-    ∙ chain-whole c.args.t.now c.args.answer (place_of_node c.args.t.now c.args.e.0) (signs_of_node c.args.t.now c.args.e.0) (type_of_node c.args.t.now c.args.e.0) (sort_of c.args.op) c.args.parts.now c.requires.fits (sym c.if-not-joins.ensures) (sym c.needs_all.ensures ∙ c.if-needs_all.false)
+    ∙ chain-whole c.args.t.now c.args.answer (place_of_node c.args.t.now c.args.e.0) (signs_of_node c.args.t.now c.args.e.0) (type_of_node c.args.t.now c.args.e.0) (operator_kind c.args.op) c.args.parts.now c.requires.fits (sym c.if-not-joins.ensures) (sym c.needs_all.ensures ∙ c.if-needs_all.false)
     ∙ ap (λ (t : ValueTree). stands (cond_in t) c.args.answer ∷ []) (sym c.requires.tree) in
     let P : List Claim → Type 0 = λ fs. OnErr c.add_whole.result (StopsAt (claims_in c.args.t.now c.args.self.now.list) fs (claims_in c.args.t.now c.add_whole.new.self.list)) in
     subst P (sym made) c.add_whole.ensures.full

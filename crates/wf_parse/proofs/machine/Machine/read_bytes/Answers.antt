@@ -1,4 +1,4 @@
-use Rattle.std.proofs.Common.{◌≡◌, ◌≤◌, ◌+◌, ◌-◌, ◌∙◌, length, refl, sym, ap, arith}
+use Rattle.std.proofs.Common.{◌+◌, ◌-◌, ◌∙◌, length, refl, sym, ap, arith}
 use Rattle.std.proofs.lemmas.Result.{err_from_is_err_and}
 use Rattle.wf_ast.specs.ParsedParts.{Parsed}
 use Rattle.wf_parse_grammar.specs.Building.{ends}

@@ -1,4 +1,4 @@
-use Rattle.std.proofs.Common.{◌≡◌, ◌∙◌, ap, append-nil}
+use Rattle.std.proofs.Common.{◌∙◌, ap, append-nil}
 use Rattle.wf_parse_grammar.specs.declared.builds.Build.TheVariants.{Enter}
 use Rattle.wf_parse_grammar.proofs.builds.Build.enter.Goals as goal
 

@@ -1,7 +1,7 @@
 use Rattle.std.proofs.lemmas.Result.{on_ok_weaker}
 use Rattle.std.proofs.Common.{◌≡◌, ◌∷◌, refl}
 use Rattle.wf_parse_nodes.specs.Products as makes
-use Rattle.wf_parse_nodes.specs.declared.values.Value.TheVariants as vals
+use Rattle.wf_parse_nodes.specs.declared.values.SemanticValue.TheVariants as vals
 use Rattle.wf_parse_nodes.proofs.Performing.{expr_put, expr_sound}
 use Rattle.wf_parse_nodes.proofs.maker.Maker.put_expr.Goals as goal
 

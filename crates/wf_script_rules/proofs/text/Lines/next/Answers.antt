@@ -1,4 +1,4 @@
-use Rattle.std.proofs.Common.{sym, ◌∙◌, ap, refl, arith, [], ◌∷◌, List, ℕ, ◌≡◌, Bool, false, length, eqb, ◌+◌, take, drop, ◌<◌}
+use Rattle.std.proofs.Common.{sym, ◌∙◌, ap, [], ◌∷◌, List, ℕ, ◌≡◌, Bool, false, length, eqb, ◌+◌, take, drop, ◌<◌}
 use Rattle.std.specs.List.{position_or_len}
 use Rattle.wf_script_rules.specs.Text.{is_feed, lines_of, without_return}
 use Rattle.wf_script_rules.proofs.Places.{place, no_place}

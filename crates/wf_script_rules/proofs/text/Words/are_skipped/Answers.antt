@@ -1,4 +1,4 @@
-use Rattle.std.proofs.Common.{sym, ◌∙◌, ap, refl, [], slice_get, List, None, ◌≡◌, ℕ, ◌∷◌}
+use Rattle.std.proofs.Common.{sym, refl, [], slice_get, List, None, ◌≡◌, ℕ, ◌∷◌}
 use Rattle.wf_script_rules.proofs.TextLaws.{next_none, skips_none, skips_some}
 use Rattle.wf_script_rules.proofs.text.Words.are_skipped.Goals as goal
 

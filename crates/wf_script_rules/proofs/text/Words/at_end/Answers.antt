@@ -1,6 +1,4 @@
-use Rattle.std.proofs.Common.{sym, ◌∙◌, ap, refl, take, drop}
-use Rattle.std.specs.List.{position_or_len}
-use Rattle.wf_script_rules.specs.Text.{is_blank, words_of}
+use Rattle.std.proofs.Common.{sym, refl}
 use Rattle.wf_script_rules.proofs.TextLaws.{empty_text, next_none, next_some, over_none, over_some}
 use Rattle.wf_script_rules.proofs.text.Words.at_end.Goals as goal
 

@@ -1,4 +1,4 @@
-use Rattle.std.proofs.Common.{sym, ◌∙◌, ap, refl, arith}
+use Rattle.std.proofs.Common.{ap}
 use Rattle.wf_script_rules.specs.Values.{next_word}
 use Rattle.wf_script_rules.proofs.TextLaws.{empty_text, next_none, next_some}
 use Rattle.wf_script_rules.proofs.text.Words.next.Goals as goal

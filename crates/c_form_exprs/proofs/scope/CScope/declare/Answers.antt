@@ -1,0 +1,10 @@
+use Rattle.c_form_exprs.proofs.ScopeLemmas.{names_after}
+use Rattle.c_form_exprs.proofs.scope.CScope.declare.Goals as goal
+
+pub invariant_of-self : goal.invariant_of-self
+invariant_of-self c =
+    let has = rw (← c.self.view_is) at c.requires.ty in
+    record {
+      same = c.self.invariant.same;
+      listed = names_after c.self.inside.front.now.nodes c.self.inside.names c.add.new.self c.spelt-spelt.result.now c.args.ty c.add.result c.add.ensures.added c.add.ensures.err has c.self.invariant.listed;
+    }
