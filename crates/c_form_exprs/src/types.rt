@@ -111,7 +111,7 @@ impl<'k, 'u> CScope<'k, 'u> {
     }
 
     /// The type of the value of what an lvalue stands for; None for an object.
-    pub fn held_type(&self, held: Held) -> Option<ExprType>
+    pub(crate) fn held_type(&self, held: Held) -> Option<ExprType>
         ensures tells { option_map (value_in self.now.front.nodes.names) result ≡ held_value (held_in self.now.front.nodes.names held) }
         ensures has { HasHeld self.now.front.nodes held → IfSome result (HasValue self.now.front.nodes) }
     {

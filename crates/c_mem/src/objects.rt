@@ -101,7 +101,7 @@ impl Object {
     }
 
     /// Whether the object is one field of bytes, all set.
-    pub fn has_bytes(&self) -> bool
+    pub(crate) fn has_bytes(&self) -> bool
         ensures { result ≡ has_bytes self.now }
     {
         self.fields.len() == 1 && self.fields[0].has_bytes()

@@ -15,7 +15,7 @@ use Rattle.c_read_grammar.specs.declared.symbols.TokenSym.TheVariants.{Mark}
 use Rattle.c_read_grammar.specs.declared.actions.StmtAction.TheVariants.{MakeAssign, MakeReturnValue, AddArm, MakeIf, MakeWhile, MakeSwitch}
 use Rattle.c_read_grammar.specs.declared.actions.Want.{Want}
 use Rattle.c_read_grammar.specs.Machine as m
-use Rattle.c_read_grammar.specs.Machine.{followed, expr, stmt, token, do_stmt, test_wants}
+use Rattle.c_read_grammar.specs.Machine.{expr, stmt, token, do_stmt, test_wants}
 use Rattle.c_read_grammar.specs.Texts.{IsToken}
 use Rattle.c_read_grammar.proofs.ReadsExpr.{open_paren, close_paren}
 use Rattle.c_read_grammar.proofs.ReadsCode.{open_brace, close_brace}

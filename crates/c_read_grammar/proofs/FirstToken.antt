@@ -14,7 +14,7 @@ use Rattle.c_text.specs.declared.kinds.CNumber.TheVariants.{Int, Unsigned, Long}
 use Rattle.c_text.specs.declared.tokens.CWord.{CWord}
 use Rattle.c_text.specs.declared.tokens.CWord.TheVariants as word
 use Rattle.c_text.specs.CSpelling as spelling
-use Rattle.c_text.specs.CSpelling.{keyword, literal, word_bytes, literal_bytes, IsLiteral, is_reserved}
+use Rattle.c_text.specs.CSpelling.{keyword, word_bytes, literal_bytes, IsLiteral, is_reserved}
 use Rattle.c_read_grammar.specs.FirstToken.{is_digit, begins, front, behind, word_of, has_leading_zero, literal_with, literal_of, run_token}
 use Rattle.c_read_grammar.proofs.FirstBytes.{and-left, and-right}
 use Rattle.c_read_grammar.proofs.OneSpelling.{value, suffix, literal-cut, value-fits, suffix-no_digit, digits-all}

@@ -103,23 +103,11 @@ fn all_indices(
 ) -> Option<Indices>
     ensures { result ≡ indices_of wi ri pos closed }
 {
-    let Some(wi) = wi else {
-        return None;
-    };
-    let Some(ri) = ri else {
-        return None;
-    };
-    let Some(pos) = pos else {
-        return None;
-    };
-    let Some(closed) = closed else {
-        return None;
-    };
     Some(Indices {
-        wi,
-        ri,
-        pos,
-        closed,
+        wi: wi?,
+        ri: ri?,
+        pos: pos?,
+        closed: closed?,
     })
 }
 

@@ -89,7 +89,7 @@ fn rest_of(u: &Unit, s: CStmtId) -> Option<CStmtId>
 
 /// Prints the statements of a block from `s` on, `depth` levels deep.
 #[cycle(print_code)]
-pub fn code<P: Pen>(u: &Unit, s: CStmtId, depth: usize, pen: &mut P)
+pub(crate) fn code<P: Pen>(u: &Unit, s: CStmtId, depth: usize, pen: &mut P)
     requires has { s.0 < length u.now.stmts }
     requires depth { depth + s.0 < 2 ^ 64 }
     requires ready { P.ready pen.old }

@@ -26,7 +26,7 @@ fn decimal_number<P: Pen>(n: u64, pen: &mut P)
     pen.write(&digits[..count]);
 }
 
-pub fn literal<P: Pen>(n: CNumber, pen: &mut P)
+pub(crate) fn literal<P: Pen>(n: CNumber, pen: &mut P)
     requires { P.ready pen.old }
     ensures ready { P.ready pen.new }
     ensures writes { P.writes pen.old pen.new (literal_bytes n) }
@@ -90,7 +90,7 @@ fn uint_spelling(kind: CUint) -> &'static [u8]
     }
 }
 
-pub fn value_type<P: Pen>(u: &Unit, kind: CType, pen: &mut P)
+pub(crate) fn value_type<P: Pen>(u: &Unit, kind: CType, pen: &mut P)
     requires has { HasType u.now kind }
     requires ready { P.ready pen.old }
     ensures ready { P.ready pen.new }
@@ -188,7 +188,7 @@ fn before_links(u: &Unit, e: CExprId, count: usize) -> CExprId
 
 /// Prints an expression.
 #[cycle(print_exprs)]
-pub fn expr<P: Pen>(u: &Unit, e: CExprId, pen: &mut P)
+pub(crate) fn expr<P: Pen>(u: &Unit, e: CExprId, pen: &mut P)
     requires has { e.0 < length u.now.exprs }
     requires ready { P.ready pen.old }
     ensures ready { P.ready pen.new }
@@ -334,7 +334,7 @@ fn operands<P: Pen>(u: &Unit, below: usize, op: COp, others: &[CExprId], pen: &m
 
 /// Prints a call without parentheses round it, whose arguments have numbers below `below`.
 #[cycle(print_exprs)]
-pub fn call<P: Pen>(u: &Unit, below: usize, called: &CCall, pen: &mut P)
+pub(crate) fn call<P: Pen>(u: &Unit, below: usize, called: &CCall, pen: &mut P)
     requires below { below ≤ length u.now.exprs }
     requires has { HasCall u.now below called.now }
     requires ready { P.ready pen.old }

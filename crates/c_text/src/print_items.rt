@@ -239,7 +239,7 @@ fn item<P: Pen>(u: &Unit, i: CItemId, pen: &mut P)
 }
 
 /// Prints the whole text of a unit.
-pub fn unit<P: Pen>(u: &Unit, pen: &mut P)
+pub(crate) fn unit<P: Pen>(u: &Unit, pen: &mut P)
     requires { P.ready pen.old }
     ensures ready { P.ready pen.new }
     ensures writes { P.writes pen.old pen.new (text_of (unit_tree u.now)) }

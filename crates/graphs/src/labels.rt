@@ -86,7 +86,11 @@ fn round(
 
 /// Labels of the numbers of a graph, by the lists of those that go to each and by the order in which a walk over the
 /// graph left them. `Err` where memory was refused. The time is in proportion to the numbers and what goes to them.
-pub fn labelled(alloc: Global, turned: &[Row], order: &Vec<u32>) -> Result<Vec<usize>, NoMemory>
+pub(crate) fn labelled(
+    alloc: Global,
+    turned: &[Row],
+    order: &Vec<u32>,
+) -> Result<Vec<usize>, NoMemory>
     requires few { length turned.now ≤ 2 ^ 32 }
     requires within { AreWithin turned.now (length turned.now) }
     requires leaving { IsLeaving (length turned.now) (goes_back turned.now) order.now.items }

@@ -44,7 +44,7 @@ fn join_row(rows: &mut Vec<Row>, row: &[usize], a: usize) -> Result<(), NoMemory
 
 /// The graph over the same numbers in which a number goes to another where that one goes to it in the given graph.
 /// `Err` where memory was refused.
-pub fn turned(alloc: Global, rows: &[Row]) -> Result<Vec<Row>, NoMemory>
+pub(crate) fn turned(alloc: Global, rows: &[Row]) -> Result<Vec<Row>, NoMemory>
     requires { AreWithin rows.now (length rows.now) }
     ensures len { IfOk result (λ turned. length turned.items ≡ length rows.now) }
     ensures goes { IfOk result (λ turned. (a b : _) → goes turned.items b a ≡ goes rows.now a b) }

@@ -49,7 +49,7 @@ impl Walk {
 }
 
 /// Where a number of a graph goes.
-pub fn row(rows: &[Row], a: usize) -> &[usize]
+pub(crate) fn row(rows: &[Row], a: usize) -> &[usize]
     requires { a < length rows.now }
     ensures { result.now ≡ row_at rows.now a }
 {
@@ -203,7 +203,7 @@ fn visit(walk: &mut Walk, rows: &[Row], start: usize) -> Result<(), NoMemory>
 
 /// The numbers of a graph in the order in which a walk into depth leaves them. `Err` where memory was refused. No
 /// recursion is needed for it, and the time is in proportion to the numbers and what they go to.
-pub fn leaving(alloc: Global, rows: &[Row]) -> Result<Vec<u32>, NoMemory>
+pub(crate) fn leaving(alloc: Global, rows: &[Row]) -> Result<Vec<u32>, NoMemory>
     requires few { length rows.now ≤ 2 ^ 32 }
     requires within { AreWithin rows.now (length rows.now) }
     ensures { IfOk result (λ order. IsLeaving (length rows.now) (goes rows.now) order.items) }

@@ -4,10 +4,7 @@ use wf_base::{ArgTy, Gives, Kind, Mark, Width, base_method};
 
 // The mark of a method, or that there is none.
 fn mark_of(kind: Kind, name: &[u8]) -> Option<Mark> {
-    match base_method(kind, name) {
-        Some(method) => Some(method.mark()),
-        None => None,
-    }
+    Some(base_method(kind, name)?.mark())
 }
 
 fn have_marks(rows: &[(Kind, &[u8], Option<Mark>)]) -> bool {
@@ -28,10 +25,8 @@ fn gives_flag(kind: Kind, name: &[u8]) -> bool {
 
 // The type of an argument, by its number from 0.
 fn argument(kind: Kind, name: &[u8], i: u32) -> Option<ArgTy> {
-    match base_method(kind, name)?.arg(i) {
-        Some((_, ty)) => Some(ty),
-        None => None,
-    }
+    let (_, ty) = base_method(kind, name)?.arg(i)?;
+    Some(ty)
 }
 
 fn have_arguments(rows: &[(Kind, &[u8], u32, Option<ArgTy>)]) -> bool {

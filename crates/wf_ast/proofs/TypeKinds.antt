@@ -34,16 +34,6 @@ list_no_number (types.Slice width) h k = cc k
 list_no_number (types.Array width lo hi count) h k = cc k
 list_no_number (types.Part s) h k = cc h
 
-pub list_no_state : (ty : Ty) → is_list ty ≡ true → is_state ty ≡ true → ⊥
-list_no_state (types.Num width lo hi) h k = cc h
-list_no_state types.Flag h k = cc h
-list_no_state types.Status h k = cc h
-list_no_state types.Reader h k = cc h
-list_no_state types.Writer h k = cc h
-list_no_state (types.Slice width) h k = cc k
-list_no_state (types.Array width lo hi count) h k = cc k
-list_no_state (types.Part s) h k = cc h
-
 pub state_no_condition : (ty : Ty) → is_state ty ≡ true → is_logical ty ≡ true → ⊥
 state_no_condition (types.Num width lo hi) h k = cc h
 state_no_condition types.Flag h k = cc h

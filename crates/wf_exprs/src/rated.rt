@@ -47,7 +47,7 @@ pub fn calculated(width: Width) -> CTy
 }
 
 /// How wide a type is.
-pub fn rank(ty: CTy) -> u32
+pub(crate) fn rank(ty: CTy) -> u32
     ensures { result ≡ rank_of ty }
 {
     match ty {

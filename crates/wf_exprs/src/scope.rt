@@ -169,7 +169,7 @@ impl<'a> BodyNames<'a> {
     }
 
     /// The name in C of a field of the source.
-    pub fn field_name(&self, u: &mut Unit, n: u32) -> Result<CNameId, NoMemory>
+    pub(crate) fn field_name(&self, u: &mut Unit, n: u32) -> Result<CNameId, NoMemory>
         ensures grows { Grows u.old u.new }
         ensures made { IfOk result (λ name. HasNamed u.new name.0 (name_of_field self.now.names n)) }
     {

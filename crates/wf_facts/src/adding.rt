@@ -21,7 +21,7 @@ pub struct Full;
 
 impl Facts {
     /// Whether a fact stands in the list: one that claims the same.
-    pub fn stands(&self, t: &Typed, f: Fact) -> bool
+    pub(crate) fn stands(&self, t: &Typed, f: Fact) -> bool
         requires fact { is_fact t.now f ≡ true }
         requires over { IsOver t.now self.now }
         ensures { result ≡ is_among (claims_in t.now self.now.list) (claim_in t.now f) }

@@ -83,15 +83,11 @@ fn comparison_known(t: &Typed, left: Side, op: Cmp, right: Side, change: Change)
     ensures facts { IfSome result (λ g. is_fact t.now g ≡ true) }
     ensures same { IfSome result (λ g. (x : Thing) → claim_mentions x (claim_in t.now g) ≡ claim_mentions x (claim_in t.now (facts.Compare left op right))) }
 {
-    let Some(n) = side_number(t, right) else {
-        return None;
-    };
+    let n = side_number(t, right)?;
     if !moves_with(change, side_form(t, left), op) {
         return None;
     }
-    let Some(number) = moved_number(change, n) else {
-        return None;
-    };
+    let number = moved_number(change, n)?;
     Some(Fact::Compare {
         left,
         op,

@@ -170,7 +170,7 @@ pub(crate) fn params_of(
 }
 
 /// The type of what a function answers.
-pub fn answer_type(answers: AnswerKind) -> Option<CType>
+pub(crate) fn answer_type(answers: AnswerKind) -> Option<CType>
     ensures { IsResult result (type_answered (answer_kind_of answers)) }
 {
     match answers {
@@ -182,14 +182,19 @@ pub fn answer_type(answers: AnswerKind) -> Option<CType>
 }
 
 /// The type of what a method answers.
-pub fn result_of(m: &Method) -> Option<CType>
+pub(crate) fn result_of(m: &Method) -> Option<CType>
     ensures { IsResult result (type_answered (answers_of m.now.mark m.now.gives)) }
 {
     answer_type(answer_kind(m.mark, m.gives))
 }
 
 /// A local with its initial value.
-pub fn local(u: &mut Unit, kind: CType, name: &[u8], initial: CExprId) -> Result<CLocal, NoMemory>
+pub(crate) fn local(
+    u: &mut Unit,
+    kind: CType,
+    name: &[u8],
+    initial: CExprId,
+) -> Result<CLocal, NoMemory>
     requires kind { HasType u.old kind }
     requires name { IsName name.now }
     requires initial { initial.0 < length u.old.exprs }

@@ -119,7 +119,7 @@ fn buffer_fields(alloc: Global, u: &mut Unit) -> Result<CList<CField>, NoMemory>
 
 /// The struct of an io buffer.
 #[tactic(auto, using(wf_exprs::proofs::Growing::grows_on), unfolding(c_text::specs::CSpelling::is_reserved))]
-pub fn io_buffer(alloc: Global, u: &mut Unit) -> Result<CItem, NoMemory>
+pub(crate) fn io_buffer(alloc: Global, u: &mut Unit) -> Result<CItem, NoMemory>
     ensures grows { Grows u.old u.new }
     ensures made { IfOk result (λ it. HasItemTree u.new it io_buffer_item) }
 {
@@ -407,7 +407,12 @@ fn struct_fields(
 }
 
 /// A struct.
-pub fn struct_item(alloc: Global, t: &Typed, u: &mut Unit, s: StructId) -> Result<CItem, NoMemory>
+pub(crate) fn struct_item(
+    alloc: Global,
+    t: &Typed,
+    u: &mut Unit,
+    s: StructId,
+) -> Result<CItem, NoMemory>
     requires typed { IsTyped t.now }
     requires words { HasWords t.now }
     requires known { s.0 < length t.now.structs }

@@ -2,10 +2,10 @@
 use Rattle.std.proofs.Common.{◌≡◌, ℕ, List, Option, Some, None, refl}
 use Rattle.wf_base.specs.declared.base_methods.ReadForm.TheVariants as reads
 use Rattle.wf_ast.specs.TypedPackage.{MethodTree}
-use Rattle.wf_ast.specs.TypedTree.{ValueTree, Target, Awaited, take_number, skip, write, Written, skip_fast, write_fast, copy_to_writer, copy_to_slice, Called}
+use Rattle.wf_ast.specs.TypedTree.{ValueTree, Target, Awaited, take_number, skip, write, Called}
 use Rattle.wf_lower_stmts.specs.BodyNodes.{AreAlike}
-use Rattle.wf_lower_stmts.specs.Forms.{Form, held_local, size_local}
-use Rattle.wf_lower_stmts.specs.Statements.{next_byte, step_on, answer_local, awoken_call, lower_written, lower_call, put_result}
+use Rattle.wf_lower_stmts.specs.Forms.{Form, held_local}
+use Rattle.wf_lower_stmts.specs.Statements.{next_byte, step_on, answer_local, awoken_call, lower_call, put_result}
 use Rattle.c_text.specs.CTree.{ExprTree, Code}
 use Rattle.wf_exprs.specs.Words.{num}
 use Rattle.wf_exprs.specs.Names.{Names}
@@ -21,12 +21,6 @@ awoken_alike f k t u h a (take_number reads.ReadU64Be) r = let e = put_alike f.n
 awoken_alike f k t u h a (take_number reads.ReadU64Le) r = let e = put_alike f.names t u h held_local r in rw e refl
 awoken_alike f k t u h a (skip n) r = refl
 awoken_alike f k t u h a (write b) r = refl
-
-pub written_alike : (names : Names) (t u : Target) → AreAlike t u → (call : Written) (r : Code) → lower_written names t call r ≡ lower_written names u call r
-written_alike names t u h (skip_fast a x y) r = refl
-written_alike names t u h (write_fast a b) r = refl
-written_alike names t u h (copy_to_writer a s) r = let e = put_alike names t u h size_local r in rw e refl
-written_alike names t u h (copy_to_slice to s) r = let e = put_alike names t u h size_local r in rw e refl
 
 pub result_alike : (names : Names) (t u : Target) → AreAlike t u → (into : Option ExprTree) (r : Code) → put_result names t into r ≡ put_result names u into r
 result_alike names t u h None r = refl

@@ -2,7 +2,7 @@
 use Rattle.std.proofs.Common.{◌≡◌, ℕ, zero, suc, ◌+◌, ◌-◌, ◌<◌, ◌≤◌, ◌^◌, Bool, true, false, List, [], ◌∷◌, ◌++◌, length, min, take, drop, set, MatchBool, Some, nat_lt, refl, sym, ap, ◌∙◌, arith}
 use Rattle.std.specs.Prelude.{slice_get, if◌then◌else◌}
 use Rattle.std.proofs.lemmas.Bool.Decides.{nat_tests}
-use Rattle.std.proofs.lemmas.List.{length-drop, length-set, length-take, length-take-le, take_min, take-append-drop}
+use Rattle.std.proofs.lemmas.List.{length-drop, length-set, length-take-le, take_min, take-append-drop}
 use Rattle.wf_base.specs.BaseOps.{Buffer, appended, capacity, elements, has_room, overwritten, put, writer_length}
 use Rattle.wf_ast.specs.Value.{Store}
 use Rattle.wf_meaning.specs.World.{Vars, cells_at, updated}

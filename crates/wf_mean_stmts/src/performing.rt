@@ -20,7 +20,7 @@ use wf_bufs::BufList;
 use wf_mean_exprs::values::Slot;
 
 /// `copy_from_slice!` on a slice: the number of the elements that go there goes to the target.
-pub fn copy_to_slice(
+pub(crate) fn copy_to_slice(
     t: &Typed,
     stage: &mut Stage,
     target: Option<ExprId>,
@@ -52,7 +52,7 @@ pub fn copy_to_slice(
 }
 
 /// `copy_from_slice!` on a writer: the number of the bytes that fit goes to the target.
-pub fn copy_to_writer(
+pub(crate) fn copy_to_writer(
     t: &Typed,
     stage: &mut Stage,
     target: Option<ExprId>,
@@ -80,7 +80,7 @@ pub fn copy_to_writer(
 }
 
 /// `skip_u32_fast!` takes so many bytes, where the promised number of bytes is there.
-pub fn skip_fast(
+pub(crate) fn skip_fast(
     t: &Typed,
     stage: &mut Stage,
     on: ExprId,
@@ -134,7 +134,7 @@ fn skip_there(bufs: &mut BufList, k: usize, actual: u64, worst_case: u64) -> boo
 }
 
 /// `write_u8_fast!` appends a byte, where there is room.
-pub fn write_fast(t: &Typed, stage: &mut Stage, on: ExprId, byte: ExprId) -> bool
+pub(crate) fn write_fast(t: &Typed, stage: &mut Stage, on: ExprId, byte: ExprId) -> bool
     requires typed { IsTyped t.now }
     requires on { IsTrue (is_expr t.now on) }
     requires byte { IsTrue (is_expr t.now byte) }

@@ -47,7 +47,7 @@ fn count_behind(labels: &[Option<Name>], text: u32) -> usize
 
 /// The loop that a jump means, by how many loops stand between it and the jump; `labels` are those of the loops round
 /// it, the outermost first. `Err` where there is no number for it.
-pub fn outwards(labels: &[Option<Name>], label: Option<Name>) -> Result<u32, NoMemory>
+pub(crate) fn outwards(labels: &[Option<Name>], label: Option<Name>) -> Result<u32, NoMemory>
     ensures { IfOk result (λ n. n ≡ outwards_by_labels labels.now label) }
 {
     match label {

@@ -35,7 +35,7 @@ fn begins(name: &[u8]) -> bool
 /// Whether nothing may be declared under this name: it begins or ends with `_`, has two in a row, or is a word
 /// that the language keeps.
 #[tactic(auto, unfolding(crate::specs::Reserved::is_reserved))]
-pub fn is_reserved(name: &[u8]) -> bool
+pub(crate) fn is_reserved(name: &[u8]) -> bool
     ensures { result ≡ reserves name.now }
 {
     begins(name) || ends(name) || has_double(name) || is_kept(name)

@@ -11,7 +11,7 @@ use Rattle.wf_parse.proofs.OneReadings.{parsed_distinct}
 use Rattle.wf_names_rules.specs.Declarations.{Variable, Constant, Structure, Method, Declared, declared, as_variable, local_of, locals_of, structs_of, methods_of}
 use Rattle.wf_names_rules.specs.NameRules.{Breaks}
 use Rattle.wf_names_rules.specs.Uses as uses
-use Rattle.wf_names_rules.specs.Uses.{Use, Scope, uses_of, type_uses, stmt_uses, block_uses, result_uses, variable_uses, method_uses, constant_scope, struct_scope, method_scope, sites_in, constant_sites, struct_sites, method_sites, sites}
+use Rattle.wf_names_rules.specs.Uses.{Use, Scope, uses_of, type_uses, stmt_uses, block_uses, result_uses, variable_uses, method_uses, constant_scope, struct_scope, method_scope, sites_in, constant_sites, struct_sites, method_sites}
 use Rattle.wf_names_resolve.specs.Standing.{standing_at}
 use Rattle.wf_names_resolve.specs.Package.{resolved_variable, resolved_consts, resolved_result, struct_in, resolved_structs, method_in, resolved_methods}
 use Rattle.wf_names_laws.specs.Kept.{IsKept, AreKept, IsKeptSite, AreKeptSites}

@@ -80,10 +80,7 @@ fn refined(
             value(env, bounds.high),
             number,
         ),
-        None => match number {
-            Some(number) => fitted(Some(width), number.number),
-            None => None,
-        },
+        None => fitted(Some(width), number?.number),
     }
 }
 

@@ -38,7 +38,7 @@ pub(crate) fn find_gone(failing: &[(u64, usize)], call: u64) -> Option<usize>
 }
 
 /// The bytes themselves where they are at most `most`, else their first `most + 1`.
-pub fn front_of(bytes: &[u8], most: u64) -> &[u8]
+pub(crate) fn front_of(bytes: &[u8], most: u64) -> &[u8]
     requires { most ≤ 1048576 }
     ensures { result.now ≡ take (most + 1) bytes.now }
 {

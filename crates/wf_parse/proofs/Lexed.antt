@@ -1,5 +1,5 @@
 -- What a loop over the tokens of a file keeps.
-use Rattle.std.proofs.Common.{◌≡◌, ℕ, Some, None, List, [], ◌∷◌, ◌++◌, length, sym, ◌∙◌, ap, subst, arith, length-append, append_assoc}
+use Rattle.std.proofs.Common.{◌≡◌, ℕ, Some, None, List, [], ◌∷◌, ◌++◌, sym, ◌∙◌, ap, subst, arith, length-append, append_assoc}
 use Rattle.std.specs.List.{slice_get}
 use Rattle.std.proofs.lemmas.Option.{slice_get_within}
 use Rattle.wf_text.specs.declared.rules.Refusal.{Refusal}
@@ -13,7 +13,7 @@ use Rattle.wf_tokens.specs.Spelling.{State, Item, Reads, IsStuck, IsOver, start}
 use Rattle.wf_tokens.proofs.ReadingOn.{reads_more}
 use Rattle.wf_parse.specs.Kinds.{KindIs}
 use Rattle.wf_parse.specs.Lexing.{TokenIs, TokensAre, IsWholeFile, IsFileUpTo, LexedSoFar, ReadsToken, ReadsRest}
-use Rattle.wf_parse.specs.Texts.{text_of, with_text, texts_behind}
+use Rattle.wf_parse.specs.Texts.{text_of, with_text}
 use Rattle.wf_parse.proofs.TextNumbers.{with_text-grows, texts_behind-more}
 
 -- A text keeps its number while texts are added.

@@ -1,5 +1,5 @@
 -- The texts of a package by first appearance: they grow at their end, stay distinct, and are found where they stand.
-use Rattle.std.proofs.Common.{◌≡◌, ◌≤◌, ◌+◌, ◌⊎◌, inl, inr, ℕ, zero, suc, Bool, true, false, ◌||◌, if◌then◌else◌, Option, None, Some, List, [], ◌∷◌, ◌++◌, length, refl, sym, ◌∙◌, ap, subst, arith, append-nil, length-append}
+use Rattle.std.proofs.Common.{◌≡◌, ◌≤◌, ◌+◌, ◌⊎◌, inl, inr, ℕ, zero, suc, Bool, true, false, ◌||◌, if◌then◌else◌, Option, None, Some, List, [], ◌∷◌, ◌++◌, length, refl, sym, ◌∙◌, ap, subst, arith, append-nil}
 use Rattle.std.specs.List.{slice_get}
 use Rattle.std.specs.Str.{bytes_eq}
 use Rattle.std.proofs.lemmas.Option.{slice_get_within}
@@ -65,16 +65,6 @@ with_text-grows known (Some text) = by_case (is_among known text)
     by_case : (b : Bool) → (more : List (List ℕ)) × ((if b then known else known ++ text ∷ []) ≡ known ++ more)
     by_case true = ([], sym (append-nil known))
     by_case false = (text ∷ [], refl)
-
-pub with_text-length : (known : List (List ℕ)) (text : Option (List ℕ)) → length (with_text known text) ≤ length known + 1
-with_text-length known None = omega arith
-with_text-length known (Some text) = by_case (is_among known text)
-  where
-    by_case : (b : Bool) → length (if b then known else known ++ text ∷ []) ≤ length known + 1
-    by_case true = omega arith
-    by_case false =
-        let sum = length-append known (text ∷ []) in
-        omega (arith, sum)
 
 pub texts_behind-more : (known : List (List ℕ)) (items : List Item) (item : Item) → texts_behind known (items ++ item ∷ []) ≡ with_text (texts_behind known items) (text_of item.kind item.text)
 texts_behind-more known [] item = refl

@@ -40,7 +40,7 @@ impl Build {
     }
 
     /// The token is read, and nothing is wanted in place of the symbol.
-    pub fn done() -> Build
+    pub(crate) fn done() -> Build
         ensures { result ≡ Take [] }
     {
         Build::Take(Wants::of(&[], &[]))

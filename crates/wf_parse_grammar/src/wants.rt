@@ -95,7 +95,12 @@ impl Wants {
     }
 
     /// The same, with a symbol between `rest` and `after`.
-    pub fn around(lead: Lead, rest: &'static [Want], last: Sym, after: &'static [Want]) -> Self
+    pub(crate) fn around(
+        lead: Lead,
+        rest: &'static [Want],
+        last: Sym,
+        after: &'static [Want],
+    ) -> Self
         ensures { result ≡ led_by lead (rest.now ++ Read last ∷ after.now) }
     {
         Wants {

@@ -20,7 +20,7 @@ use Rattle.wf_ast.specs.declared.parsed.TypeExpr.{TypeExpr}
 use Rattle.wf_ast.specs.declared.parsed.Via.{Via}
 use Rattle.wf_ast.specs.ParsedTree as tree
 use Rattle.wf_ast.specs.ParsedTree.{ExprTree, StmtTree, ArmTrees}
-use Rattle.wf_ast.specs.ParsedTrees.{expr_at, target_at, clauses_at, via_at, stmt_at, block_at, arms_at, stmt_made, stmts_after, fields_at, result_at, decl_made, decls_made}
+use Rattle.wf_ast.specs.ParsedTrees.{target_at, clauses_at, via_at, stmt_at, block_at, arms_at, stmt_made, stmts_after, fields_at, result_at, decl_made, decls_made}
 use Rattle.wf_ast.specs.ParsedParts.{TargetBelow, ViaBelow, BlockBelow, ElseBelow, StmtParts, StmtsOrdered, FieldsBelow, ResultBelow, DeclParts, PrefixBelow}
 use Rattle.wf_ast.proofs.TreeLemmas.{Agree, expr_at-same, part_at-same, given_at-same, bounds_at-same, type_at-same, items_at-same, IsBelow-more, GivenBelow-more, PrefixBelow-more, BoundsBelow-more, TypeBelow-more, TargetBelow-more, ViaBelow-more, FieldsBelow-more, ResultBelow-more, BlockBelow-more, all_map}
 use Rattle.wf_parse_nodes.specs.declared.values.SemanticValue.{SemanticValue}

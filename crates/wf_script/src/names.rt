@@ -100,7 +100,7 @@ impl Names {
     }
 
     /// What a name stands for.
-    pub fn thing(&self, word: &[u8]) -> Option<Thing>
+    pub(crate) fn thing(&self, word: &[u8]) -> Option<Thing>
         ensures { result ≡ thing_named word.now self.now }
     {
         Some(self.find(word)?.thing)
@@ -132,7 +132,7 @@ impl Names {
 
     /// What a known name stands for; X2 where it isn't known.
     #[tactic(auto, unfolding(wf_script_rules::specs::Values::known))]
-    pub fn known(&self, word: &[u8]) -> Result<Thing, XRule>
+    pub(crate) fn known(&self, word: &[u8]) -> Result<Thing, XRule>
         ensures { result ≡ known self.now word.now }
     {
         self.thing(word).ok_or(XRule::X2)

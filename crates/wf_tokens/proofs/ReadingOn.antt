@@ -1,11 +1,9 @@
 -- Reading on: what a loop over the tokens of a file keeps. For the crates that read lists of tokens.
 use Rattle.std.proofs.Common.{◌≡◌, ℕ, ◌⊎◌, inl, inr, List, [], ◌∷◌, ◌++◌, refl, sym, ◌∙◌, ap, subst}
 use Rattle.wf_text.specs.declared.place.Place.{Place}
-use Rattle.wf_tokens.specs.declared.kinds.TokenKind.{TokenKind}
 use Rattle.wf_tokens.specs.declared.kinds.TokenKind.TheVariants as kind
 use Rattle.wf_tokens.specs.declared.symbols.Symbol.{Symbol}
 use Rattle.wf_tokens.specs.declared.symbols.Symbol.TheVariants as symbol
-use Rattle.wf_tokens.specs.Pieces.{IsText, IsPiece}
 use Rattle.wf_tokens.specs.Places.{behind_byte, behind_bytes}
 use Rattle.wf_tokens.specs.Spelling.{State, Item, Reads, ReadsPiece, MakesSemicolon, ReadsAll}
 
@@ -32,11 +30,3 @@ same_end-all old (item ∷ items) new r = same_end-all r.0 items new r.2 ∙ sam
 
 pub text_or_symbol : (s : Symbol) → kind.Text ≡ kind.Symbol s → ⊥
 text_or_symbol s h = cc
-
--- The bytes of a text that was read are a text's, and so for a name.
-pub text_read : (old : State) (item : Item) (new : State) → Reads old item new → item.kind ≡ kind.Text → IsText item.text
-text_read old item new r is = by_case r.1
-  where
-    by_case : ReadsPiece old item new ⊎ MakesSemicolon old item new → IsText item.text
-    by_case (inl p) = subst (λ (k : TokenKind). IsPiece k item.text new.rest) is p.piece
-    by_case (inr p) = absurd (text_or_symbol symbol.Semicolon (sym is ∙ ap (λ (i : Item). i.kind) p.made))

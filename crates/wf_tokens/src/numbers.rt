@@ -119,7 +119,7 @@ fn has_leading_zero(text: &[u8]) -> bool
 }
 
 /// The value of a number. S3 where the text is no number's; S4 where the value is 2^64 or more.
-pub fn number_of(text: &[u8]) -> Result<u64, Rule>
+pub(crate) fn number_of(text: &[u8]) -> Result<u64, Rule>
     ensures { AnswersNumber result (number_of text.now) }
 {
     match marked_base(text) {

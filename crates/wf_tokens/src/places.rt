@@ -27,7 +27,7 @@ fn behind_byte(at: Place, byte: u8) -> Place
 }
 
 /// The place after bytes of which the first stands at `at`.
-pub fn behind_bytes(at: Place, bytes: &[u8]) -> Place
+pub(crate) fn behind_bytes(at: Place, bytes: &[u8]) -> Place
     requires line { at.line + length bytes.now < 2 ^ 32 }
     requires col { at.col + length bytes.now < 2 ^ 32 }
     ensures place { result ≡ behind_bytes at bytes.now }

@@ -12,7 +12,7 @@ pub(crate) fn is_letter(byte: u8) -> bool
 }
 
 /// A decimal digit.
-pub fn is_digit(byte: u8) -> bool
+pub(crate) fn is_digit(byte: u8) -> bool
     ensures { result ≡ is_digit byte }
 {
     matches!(byte, b'0'..=b'9')

@@ -28,7 +28,7 @@ use Rattle.wf_named.specs.WellNamed.{count_args, is_wanted, args_wanted, kind_of
 use Rattle.wf_named.specs.Grammar.{args_by_grammar, call_by_grammar, target_by_grammar}
 use Rattle.wf_types_rules.specs.declared.meanings.Meaning.{Meaning}
 use Rattle.wf_types_rules.specs.declared.meanings.Meaning.TheVariants as meanings
-use Rattle.wf_types_rules.specs.Meanings.{all_of, same_width, there, variable}
+use Rattle.wf_types_rules.specs.Meanings.{all_of, same_width, variable}
 use Rattle.wf_types_rules.specs.Meanings as meant
 use Rattle.wf_types_rules.specs.Operands.{differs_in}
 use Rattle.wf_types_rules.specs.ExprTypes.{given_by_base}
