@@ -25,7 +25,7 @@ use Rattle.c_meaning.specs.CExprs.{Surroundings}
 use Rattle.wf_exprs.specs.Names.{Names}
 use Rattle.wf_exprs.specs.Words.{literal, num, uint_of, two}
 use Rattle.wf_exprs.specs.Exprs.{calculated, rank, Rated, rated, literal_type, io_code, place_code, end_code, bytes_code, there, peeked, raised, peek_code, position_code, chained, asked_code}
-use Rattle.wf_exprs_laws.specs.ExprLaw.{IsSum, DeclaresQuestion, GivesNumber, BufferStands}
+use Rattle.wf_exprs_laws.specs.ExprLaw.{IsSum, DeclaresQuestion, GivesNumber, BufferStands, BytesStand}
 use Rattle.wf_exprs_laws.proofs.CNumbers.{limit-left, limit-right}
 use Rattle.wf_exprs_laws.proofs.Operands.{the-number, IsNumber, literal-number, cast-number, chained-number, calculated-number}
 use Rattle.wf_exprs_laws.proofs.Links.{only-some, shift_left-calculates}
@@ -111,7 +111,7 @@ pub record IsAsked (x : Surroundings) (r : Rated) (bits n : ℕ) : Type 0 where
   pub few : n < 2 ^ bits
   pub narrow : rank r.ty ≤ rank (calculated bits)
 
-module _ (names : Names) (x : Surroundings) (a : ℕ) (b : Buffer) (lawful : IsLawful b) (bs : BufferStands names x a types.Reader b) where
+module _ (names : Names) (x : Surroundings) (a : ℕ) (b : Buffer) (lawful : IsLawful b) (bs : BufferStands names x a types.Reader b) (bytes : BytesStand names x a b) where
   place-number : IsNumber x (place_code names a) U64 b.ri
   place-number = record { gives = bs.place; small = omega (arith, lawful.read, lawful.written, lawful.size) }
 
@@ -120,7 +120,7 @@ module _ (names : Names) (x : Surroundings) (a : ℕ) (b : Buffer) (lawful : IsL
 
   byte-number : (index : ExprTree) (k : ℕ) → IsNumber x index U64 k → k < length b.cells → IsNumber x (element (bytes_code names a) index) Int (byte_of b k)
   byte-number index k h lt =
-      element-number x (bytes_code names a) index 8 refl bs.at U64 k (byte_of b k) bs.bytes h (bs.each k (byte_of b k) (slice_get-get_or b.cells k 0 lt)) (byte-small k lt)
+      element-number x (bytes_code names a) index 8 refl bytes.at U64 k (byte_of b k) bytes.is_pointer h (bytes.each k (byte_of b k) (slice_get-get_or b.cells k 0 lt)) (byte-small k lt)
 
   first-number : b.ri < length b.cells → IsNumber x (element (bytes_code names a) (place_code names a)) Int (byte_of b b.ri)
   first-number lt = byte-number (place_code names a) b.ri place-number lt
@@ -187,7 +187,7 @@ module _ (names : Names) (x : Surroundings) (a : ℕ) (b : Buffer) (lawful : IsL
 
 -- ---- all questions
 
-module _ (names : Names) (x : Surroundings) (a : ℕ) (b : Buffer) (lawful : IsLawful b) where
+module _ (names : Names) (s : State) (x : Surroundings) (a : ℕ) (b : Buffer) (here : io_buffer s a ≡ Some b) (lawful : IsLawful b) where
   position-asked : IsSum x 64 → (place : ℕ) → place < 2 ^ 64 → GivesNumber x (place_code names a) U64 place → GivesNumber x (member (io_code names a) (codes "pos")) U64 b.pos
       → IsAsked x (rated (position_code names a) U64) 64 (min (b.pos + place) (2 ^ 64 - 1))
   position-asked sums place small p e =
@@ -213,38 +213,38 @@ module _ (names : Names) (x : Surroundings) (a : ℕ) (b : Buffer) (lawful : IsL
   room-few true = omega arith
   room-few false = omega (arith, lawful.size)
 
-  pub reader-asked : (question : Question) → DeclaresQuestion x question → BufferStands names x a types.Reader b → is_reader_question question ≡ true → (n : ℕ) → told question b ≡ Some n
+  pub reader-asked : (question : Question) → DeclaresQuestion names s x question a → BufferStands names x a types.Reader b → is_reader_question question ≡ true → (n : ℕ) → told question b ≡ Some n
       → IsAsked x (asked_code names a question) (question_width question) n
   reader-asked reader_length d bs q n e =
-      let s : b.wi - b.ri ≡ n = cc e in
+      let v : b.wi - b.ri ≡ n = cc e in
       let few : b.wi < 2 ^ 64 = omega (arith, lawful.written, lawful.size) in
-      record { is = subst (λ n. IsNumber x (there names a) U64 n) s (there-number names x a b.ri b.wi bs.place bs.end lawful.read few); few = omega (arith, s, few); narrow = omega arith }
+      record { is = subst (λ n. IsNumber x (there names a) U64 n) v (there-number names x a b.ri b.wi bs.place bs.end lawful.read few); few = omega (arith, v, few); narrow = omega arith }
   reader-asked reader_position d bs q n e =
-      let s : min (b.pos + b.ri) (2 ^ 64 - 1) ≡ n = cc e in
-      subst (λ n. IsAsked x (rated (position_code names a) U64) 64 n) s (position-asked d b.ri (omega (arith, lawful.read, lawful.written, lawful.size)) bs.place bs.position)
+      let v : min (b.pos + b.ri) (2 ^ 64 - 1) ≡ n = cc e in
+      subst (λ n. IsAsked x (rated (position_code names a) U64) 64 n) v (position-asked d b.ri (omega (arith, lawful.read, lawful.written, lawful.size)) bs.place bs.position)
   reader-asked (peek PeekU8) d bs q n e =
       let o = only-some (can_peek PeekU8 b) (Some (peek_value PeekU8 b)) n e in
       let le : 1 ≤ b.wi - b.ri = grind (arith, nat_tests, o.0) in
-      let s : peek_value PeekU8 b ≡ n = cc (o.1) in peek_byte-asked names x a b lawful bs le n s
+      let v : peek_value PeekU8 b ≡ n = cc (o.1) in peek_byte-asked names x a b lawful bs (d b here) le n v
   reader-asked (peek PeekU16Le) d bs q n e =
       let o = only-some (can_peek PeekU16Le b) (Some (peek_value PeekU16Le b)) n e in
       let le : 2 ≤ b.wi - b.ri = grind (arith, nat_tests, o.0) in
-      let s : peek_value PeekU16Le b ≡ n = cc (o.1) in peek_half-asked names x a b lawful bs le n s
+      let v : peek_value PeekU16Le b ≡ n = cc (o.1) in peek_half-asked names x a b lawful bs (d b here) le n v
   reader-asked (peek PeekU32Le) d bs q n e =
       let o = only-some (can_peek PeekU32Le b) (Some (peek_value PeekU32Le b)) n e in
       let le : 4 ≤ b.wi - b.ri = grind (arith, nat_tests, o.0) in
-      let s : peek_value PeekU32Le b ≡ n = cc (o.1) in peek_word-asked names x a b lawful bs le n s
+      let v : peek_value PeekU32Le b ≡ n = cc (o.1) in peek_word-asked names x a b lawful bs (d b here) le n v
   reader-asked writer_length d bs q n e = absurd (cc q)
   reader-asked writer_position d bs q n e = absurd (cc q)
 
-  pub writer-asked : (question : Question) → DeclaresQuestion x question → BufferStands names x a types.Writer b → is_reader_question question ≡ false → (n : ℕ) → told question b ≡ Some n
+  pub writer-asked : (question : Question) → DeclaresQuestion names s x question a → BufferStands names x a types.Writer b → is_reader_question question ≡ false → (n : ℕ) → told question b ≡ Some n
       → IsAsked x (asked_code names a question) (question_width question) n
   writer-asked writer_length d bs q n e =
-      let s : (if b.closed then 0 else capacity b - b.wi) ≡ n = cc e in
-      record { is = subst (λ n. IsNumber x (there names a) U64 n) s (room b.closed bs.place bs.end); few = subst (λ n. n < 2 ^ 64) s (room-few b.closed); narrow = omega arith }
+      let v : (if b.closed then 0 else capacity b - b.wi) ≡ n = cc e in
+      record { is = subst (λ n. IsNumber x (there names a) U64 n) v (room b.closed bs.place bs.end); few = subst (λ n. n < 2 ^ 64) v (room-few b.closed); narrow = omega arith }
   writer-asked writer_position d bs q n e =
-      let s : min (b.pos + b.wi) (2 ^ 64 - 1) ≡ n = cc e in
-      subst (λ n. IsAsked x (rated (position_code names a) U64) 64 n) s (position-asked d b.wi (omega (arith, lawful.written, lawful.size)) bs.place bs.position)
+      let v : min (b.pos + b.wi) (2 ^ 64 - 1) ≡ n = cc e in
+      subst (λ n. IsAsked x (rated (position_code names a) U64) 64 n) v (position-asked d b.wi (omega (arith, lawful.written, lawful.size)) bs.place bs.position)
   writer-asked reader_length d bs q n e = absurd (cc q)
   writer-asked reader_position d bs q n e = absurd (cc q)
   writer-asked (peek form) d bs q n e = absurd (cc q)

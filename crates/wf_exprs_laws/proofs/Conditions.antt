@@ -413,7 +413,7 @@ module _ (p : PackageTree) (m : MethodTree) (s : State) (x : Surroundings) (st :
   truth-literal true = record { at = numeric (number Int 1); value = refl; is = refl }
   truth-literal false = record { at = numeric (number Int 0); value = refl; is = refl }
 
-  compare-cond : (op : Order) (a b : NumTree) (t : Bool) → Declares x a × Declares x b → (well_num (record { within = p; method = m }) a && well_num (record { within = p; method = m }) b) ≡ true
+  compare-cond : (op : Order) (a b : NumTree) (t : Bool) → Declares (names_of p m) s x a × Declares (names_of p m) s x b → (well_num (record { within = p; method = m }) a && well_num (record { within = p; method = m }) b) ≡ true
       → option_and_then (λ k. option_map (compares op k) (value s b)) (value s a) ≡ Some t
       → CondGives x (compared op (lowered_expr (names_of p m) a) (lowered_expr (names_of p m) b)) t
   compare-cond op a b t u h e =
@@ -425,7 +425,7 @@ module _ (p : PackageTree) (m : MethodTree) (s : State) (x : Surroundings) (st :
       subst (λ t. CondGives x (compared op (lowered_expr (names_of p m) a) (lowered_expr (names_of p m) b)) t) f.gives
       (compared-cond x op (lowered_expr (names_of p m) a) (lowered_expr (names_of p m) b) (lowered (names_of p m) a).ty (lowered (names_of p m) b).ty d.from f.from g.is i.is)
 
-  pub conditions : (t : CondTree) (b : Bool) → DeclaresCond x t → well_cond (record { within = p; method = m }) t ≡ true → truth_of s t ≡ Some b → CondGives x (lowered_cond (names_of p m) t) b
+  pub conditions : (t : CondTree) (b : Bool) → DeclaresCond (names_of p m) s x t → well_cond (record { within = p; method = m }) t ≡ true → truth_of s t ≡ Some b → CondGives x (lowered_cond (names_of p m) t) b
   conditions (truth at v) b u h e = let same : v ≡ b = cc e in subst (λ b. CondGives x (num (if v then 1 else 0)) b) same (truth-literal v)
   conditions (flag at path) b u h e = flag-cond (path_code (names_of p m) path) b (st.flags path b h e)
   conditions (compare at sign a op d_) b u h e = compare-cond op a d_ b u (and_parts (fit_together a d_ (width_of a) (width_of d_)) _ h).1 e

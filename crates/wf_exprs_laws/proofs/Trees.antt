@@ -167,7 +167,7 @@ module _ (p : PackageTree) (m : MethodTree) (s : State) (x : Surroundings) (st :
         fitting = λ bits v f. own-fitting 64 n (rank (lowered_slice names cells).length.ty) few (rank-most (lowered_slice names cells).length.ty) bits f;
       }
 
-  asked-is : (question : Question) (a n : ℕ) → DeclaresQuestion x question → may_ask question (variable_at m.args a) ≡ true → option_and_then (told question) (io_buffer s a) ≡ Some n
+  asked-is : (question : Question) (a n : ℕ) → DeclaresQuestion names s x question a → may_ask question (variable_at m.args a) ≡ true → option_and_then (told question) (io_buffer s a) ≡ Some n
       → IsAsked x (asked_code names a question) (question_width question) n
   asked-is question a n d h e = by (is_reader_question question) refl
     where
@@ -192,12 +192,12 @@ module _ (p : PackageTree) (m : MethodTree) (s : State) (x : Surroundings) (st :
       by : (test : Bool) → is_reader_question question ≡ test → IsAsked x (asked_code names a question) (question_width question) n
       by true q =
           let bs = st.buffers a it.number types.Reader c.from (reader-type (variable_at m.args a) (asks-reader question (variable_at m.args a) q h)) it.named it.at in
-          reader-asked names x a c.from bs.0 question d bs.1 q n c.gives
+          reader-asked names s x a c.from c.is bs.0 question d bs.1 q n c.gives
       by false q =
           let bs = st.buffers a it.number types.Writer c.from (writer-type (variable_at m.args a) (asks-writer question (variable_at m.args a) q h)) it.named it.at in
-          writer-asked names x a c.from bs.0 question d bs.1 q n c.gives
+          writer-asked names s x a c.from c.is bs.0 question d bs.1 q n c.gives
 
-  asked-gives : (at : Place) (question : Question) (a n : ℕ) → DeclaresQuestion x question → may_ask question (type_at context (arg a)) ≡ true → option_and_then (told question) (io_buffer s a) ≡ Some n
+  asked-gives : (at : Place) (question : Question) (a n : ℕ) → DeclaresQuestion names s x question a → may_ask question (type_at context (arg a)) ≡ true → option_and_then (told question) (io_buffer s a) ≡ Some n
       → NumGives (asked at question a) n
   asked-gives at question a n d h e =
       let it = asked-is question a n d h e in
@@ -244,7 +244,7 @@ module _ (p : PackageTree) (m : MethodTree) (s : State) (x : Surroundings) (st :
       })
 
   mutual
-    pub numbers : (t : NumTree) (n : ℕ) → Declares x t → well_part context t ≡ true → value s t ≡ Some n → NumGives t n
+    pub numbers : (t : NumTree) (n : ℕ) → Declares names s x t → well_part context t ≡ true → value s t ≡ Some n → NumGives t n
     numbers (number at k) n u h e = let same : k ≡ n = cc e in subst (λ n. NumGives (number at k) n) same (number-gives at k h)
     numbers (read at of path) n u h e = read-gives at of path n h e
     numbers (element at of cells index) n u h e =
@@ -272,7 +272,7 @@ module _ (p : PackageTree) (m : MethodTree) (s : State) (x : Surroundings) (st :
         length-gives at cells c.from n (slices cells c.from u h c.is) c.gives
     numbers (asked at question a) n u h e = asked-gives at question a n u h e
 
-    pub slices : (t : SliceTree) (cells : Span) → DeclaresSlice x t → well_slice context t ≡ true → span_of s t ≡ Some cells → SliceGives t cells
+    pub slices : (t : SliceTree) (cells : Span) → DeclaresSlice names s x t → well_slice context t ≡ true → span_of s t ≡ Some cells → SliceGives t cells
     slices (slice at bits path) xs u h e = pair-gives at bits path xs h e
     slices (array at of count path) xs u h e = array-gives at of count path xs h e
     slices (cut at cells from to) xs u h e =
@@ -284,12 +284,12 @@ module _ (p : PackageTree) (m : MethodTree) (s : State) (x : Surroundings) (st :
         let f = came (part_of c.from d.from) (end_value s c.from.count to) xs d.gives in
         part-gives at cells from to c.from xs d.from f.from (slices cells c.from u.0 q_1.0 c.is) (ends from 0 d.from u.1.0 q_2.0 d.is) (ends to c.from.count f.from u.1.1 q_2.1 f.is) f.gives
 
-    pub ends : (t : EndTree) (default n : ℕ) → DeclaresEnd x t → well_end context t ≡ true → end_value s default t ≡ Some n → IsEnd x (lowered_end names t) default n
+    pub ends : (t : EndTree) (default n : ℕ) → DeclaresEnd names s x t → well_end context t ≡ true → end_value s default t ≡ Some n → IsEnd x (lowered_end names t) default n
     ends absent default n u h e = cc e
     ends (present t) default n u h e = (numbers t n u (and_parts (is_whole_number t) _ h).1 e).is
 
   -- A number that is assigned: a conversion that C makes by itself stands for nothing.
-  pub given-number : (t : NumTree) (n : ℕ) → Declares x t → well_part context t ≡ true → value s t ≡ Some n → (ty : CTy) × IsNumber x (given names t) ty n
+  pub given-number : (t : NumTree) (n : ℕ) → Declares names s x t → well_part context t ≡ true → value s t ≡ Some n → (ty : CTy) × IsNumber x (given names t) ty n
   given-number (convert at sign bits a) n u h e =
       let q = and_parts (is_width bits) _ h in
       let c = came (fitted bits) (value s a) n e in

@@ -1,5 +1,5 @@
--- The law of expressions: where locals, fields and arguments stand in C's memory for what the source has, an expression of
--- the source that isn't stuck has the same value in C, and no undefined step is taken.
+-- The law of expressions: where locals, fields and arguments stand in C's memory for what the source has, and what an expression
+-- uses is declared, an expression of the source that isn't stuck has the same value in C, and no undefined step is taken.
 use Rattle.std.specs.Prelude.{ℕ, zero, suc, ◌≡◌, ◌<◌, ◌≤◌, ◌+◌, ◌-◌, ◌^◌, min, Bool, true, false, if◌then◌else◌, Option, None, Some, option_and_then, is_some, slice_get, List, [], codes, pos}
 use Rattle.wf_text.specs.StatusText.{category_of}
 use Rattle.wf_text.specs.declared.categories.Category.TheVariants.{Fine}
@@ -9,10 +9,10 @@ use Rattle.wf_num.specs.CArithmetic.{IsIn}
 use Rattle.wf_base.specs.BaseOps.{Buffer, capacity, IsLawful}
 use Rattle.wf_ast.specs.declared.types.Ty.{Ty}
 use Rattle.wf_ast.specs.declared.types.Ty.TheVariants as types
-use Rattle.wf_ast.specs.TypedTree.{Path, NumType, Arith, sat_plus, sat_minus, Question, reader_position, writer_position, NumTree, SliceTree, EndTree, StatusTree, CondTree}
+use Rattle.wf_ast.specs.TypedTree.{Path, NumType, Arith, sat_plus, sat_minus, Question, reader_position, writer_position, peek, NumTree, SliceTree, EndTree, StatusTree, CondTree}
 use Rattle.wf_ast.specs.TypedTree as tree
 use Rattle.wf_ast.specs.TypedPackage.{MethodTree, PackageTree}
-use Rattle.wf_ast.specs.Value.{Span, State, element_of, value, span_of, status_value, truth_of, same_category}
+use Rattle.wf_ast.specs.Value.{Span, State, io_buffer, element_of, value, span_of, status_value, truth_of, same_category}
 use Rattle.wf_ast.specs.WellTyped.{type_at, variable_at, is_width, is_number, is_array, is_slice, is_flag, is_status, well_part, well_slice, well_cond, well_status, element_type}
 use Rattle.c_text.specs.CTree.{ExprTree, member, text}
 use Rattle.c_meaning.specs.declared.cells.Cell.TheVariants.{Num as num}
@@ -105,15 +105,18 @@ abbrev pub end_of : Ty → Buffer → ℕ
 end_of types.Writer b = if b.closed then b.wi else capacity b
 end_of ty b = b.wi
 
--- An io argument stands for its buffer. What the body has moved stands in its locals, and not yet in the buffer's struct. So
--- does the pointer to the bytes, which the body reads once.
+-- An io argument stands for its buffer. What the body has moved stands in its locals, and not yet in the buffer's struct.
 pub record BufferStands (names : Names) (x : Surroundings) (a : ℕ) (ty : Ty) (b : Buffer) : Type 0 where
   pub place : GivesNumber x (place_code names a) U64 (place_of ty b)
   pub end : GivesNumber x (end_code names a) U64 (end_of ty b)
   pub position : GivesNumber x (member (io_code names a) (codes "pos")) U64 b.pos
   pub closed : GivesNumber x (member (io_code names a) (codes "closed")) Int (if b.closed then 1 else 0)
+
+-- The local that points to a buffer's bytes stands for them. A body has it only where its code reads these bytes, so it is asked
+-- of an expression that peeks, and not of each reader and writer.
+pub record BytesStand (names : Names) (x : Surroundings) (a : ℕ) (b : Buffer) : Type 0 where
   pub at : CValue
-  pub bytes : GivesPointer x (bytes_code names a) 8 at
+  pub is_pointer : GivesPointer x (bytes_code names a) 8 at
   pub each : (k n : ℕ) → slice_get b.cells k ≡ Some n → cell_behind x.memory at k ≡ Some (numeric (number Int n))
 
 -- A status but ok stands for its text, which tells its category.
@@ -153,36 +156,38 @@ abbrev pub IsDifference : Surroundings → (bits : ℕ) → Type 0
 IsDifference x bits = (e f : ExprTree) (ty uy : CTy) (m n : ℕ) → is_width bits ≡ true → m < 2 ^ bits → n < 2 ^ bits
     → IsTheNumber x e ty m → IsTheNumber x f uy n → GivesNumber x (saturated false bits e f) (calculated bits) (m - n)
 
--- The text declares what an expression uses: the functions of saturating operators, and the constants of statuses. What no
--- function uses is left out of a text.
+-- What an expression uses is declared, and stands for what it is: the functions of saturating operators, the constants of
+-- statuses, and the pointer to a reader's bytes where it peeks. What no function uses is left out of a text, and what no
+-- statement of a body uses out of its locals.
 abbrev pub DeclaresOperator : Surroundings → Arith → (bits : ℕ) → Type 0
 DeclaresOperator x sat_plus bits = IsSum x bits
 DeclaresOperator x sat_minus bits = IsDifference x bits
 DeclaresOperator x op bits = Unit {0}
 
-abbrev pub DeclaresQuestion : Surroundings → Question → Type 0
-DeclaresQuestion x reader_position = IsSum x 64
-DeclaresQuestion x writer_position = IsSum x 64
-DeclaresQuestion x question = Unit {0}
+abbrev pub DeclaresQuestion : Names → State → Surroundings → Question → (a : ℕ) → Type 0
+DeclaresQuestion names s x reader_position a = IsSum x 64
+DeclaresQuestion names s x writer_position a = IsSum x 64
+DeclaresQuestion names s x (peek form) a = (b : Buffer) → io_buffer s a ≡ Some b → BytesStand names x a b
+DeclaresQuestion names s x question a = Unit {0}
 
 abbrev mutual
-  pub Declares : Surroundings → NumTree → Type 0
-  Declares x (tree.number at n) = Unit {0}
-  Declares x (tree.read at of path) = Unit {0}
-  Declares x (tree.element at of cells index) = DeclaresSlice x cells × Declares x index
-  Declares x (tree.link at sign op bits joined a b) = DeclaresOperator x op bits × (Declares x a × Declares x b)
-  Declares x (tree.convert at sign bits a) = Declares x a
-  Declares x (tree.length_of at cells) = DeclaresSlice x cells
-  Declares x (tree.asked at question a) = DeclaresQuestion x question
+  pub Declares : Names → State → Surroundings → NumTree → Type 0
+  Declares names s x (tree.number at n) = Unit {0}
+  Declares names s x (tree.read at of path) = Unit {0}
+  Declares names s x (tree.element at of cells index) = DeclaresSlice names s x cells × Declares names s x index
+  Declares names s x (tree.link at sign op bits joined a b) = DeclaresOperator x op bits × (Declares names s x a × Declares names s x b)
+  Declares names s x (tree.convert at sign bits a) = Declares names s x a
+  Declares names s x (tree.length_of at cells) = DeclaresSlice names s x cells
+  Declares names s x (tree.asked at question a) = DeclaresQuestion names s x question a
 
-  pub DeclaresSlice : Surroundings → SliceTree → Type 0
-  DeclaresSlice x (tree.slice at bits path) = Unit {0}
-  DeclaresSlice x (tree.array at of count path) = Unit {0}
-  DeclaresSlice x (tree.cut at cells from to) = DeclaresSlice x cells × (DeclaresEnd x from × DeclaresEnd x to)
+  pub DeclaresSlice : Names → State → Surroundings → SliceTree → Type 0
+  DeclaresSlice names s x (tree.slice at bits path) = Unit {0}
+  DeclaresSlice names s x (tree.array at of count path) = Unit {0}
+  DeclaresSlice names s x (tree.cut at cells from to) = DeclaresSlice names s x cells × (DeclaresEnd names s x from × DeclaresEnd names s x to)
 
-  pub DeclaresEnd : Surroundings → EndTree → Type 0
-  DeclaresEnd x tree.absent = Unit {0}
-  DeclaresEnd x (tree.present t) = Declares x t
+  pub DeclaresEnd : Names → State → Surroundings → EndTree → Type 0
+  DeclaresEnd names s x tree.absent = Unit {0}
+  DeclaresEnd names s x (tree.present t) = Declares names s x t
 
 abbrev pub HasConstant : Surroundings → (n : ℕ) → Type 0
 HasConstant x n = is_some (c.value x (status_constant n)) ≡ true
@@ -191,34 +196,34 @@ abbrev pub DeclaresStatus : Surroundings → StatusTree → Type 0
 DeclaresStatus x (tree.status at n) = HasConstant x n
 DeclaresStatus x t = Unit {0}
 
-abbrev pub DeclaresCond : Surroundings → CondTree → Type 0
-DeclaresCond x (tree.truth at b) = Unit {0}
-DeclaresCond x (tree.flag at path) = Unit {0}
-DeclaresCond x (tree.compare at sign a op b) = Declares x a × Declares x b
-DeclaresCond x (tree.same_status at sign a one b) = DeclaresStatus x a × DeclaresStatus x b
-DeclaresCond x (tree.junction at both joined a b) = DeclaresCond x a × DeclaresCond x b
-DeclaresCond x (tree.negation at a) = DeclaresCond x a
-DeclaresCond x (tree.closed at a) = Unit {0}
-DeclaresCond x (tree.has_category at t category) = DeclaresStatus x t
+abbrev pub DeclaresCond : Names → State → Surroundings → CondTree → Type 0
+DeclaresCond names s x (tree.truth at b) = Unit {0}
+DeclaresCond names s x (tree.flag at path) = Unit {0}
+DeclaresCond names s x (tree.compare at sign a op b) = Declares names s x a × Declares names s x b
+DeclaresCond names s x (tree.same_status at sign a one b) = DeclaresStatus x a × DeclaresStatus x b
+DeclaresCond names s x (tree.junction at both joined a b) = DeclaresCond names s x a × DeclaresCond names s x b
+DeclaresCond names s x (tree.negation at a) = DeclaresCond names s x a
+DeclaresCond names s x (tree.closed at a) = Unit {0}
+DeclaresCond names s x (tree.has_category at t category) = DeclaresStatus x t
 
--- The law, for all methods and memories, where the text declares what the expression uses. A number that is assigned, passed or returned may be of any type that represents
--- it: C converts it.
+-- The law, for all methods and memories, where what the expression uses is declared. A number that is assigned, passed or
+-- returned may be of any type that represents it: C converts it.
 pub record IsExprLaw : Type 0 where
   pub numbers : (p : PackageTree) (m : MethodTree) (s : State) (x : Surroundings) → Stands p m s x
-      → (t : NumTree) (n : ℕ) → Declares x t → well_part (record { within = p; method = m }) t ≡ true → value s t ≡ Some n
+      → (t : NumTree) (n : ℕ) → Declares (names_of p m) s x t → well_part (record { within = p; method = m }) t ≡ true → value s t ≡ Some n
       → IsTheNumber x (lowered (names_of p m) t).code (lowered (names_of p m) t).ty n
   pub assigned : (p : PackageTree) (m : MethodTree) (s : State) (x : Surroundings) → Stands p m s x
-      → (t : NumTree) (n : ℕ) → Declares x t → well_part (record { within = p; method = m }) t ≡ true → value s t ≡ Some n
+      → (t : NumTree) (n : ℕ) → Declares (names_of p m) s x t → well_part (record { within = p; method = m }) t ≡ true → value s t ≡ Some n
       → (ty : CTy) × IsTheNumber x (given (names_of p m) t) ty n
   pub slices : (p : PackageTree) (m : MethodTree) (s : State) (x : Surroundings) → Stands p m s x
-      → (t : SliceTree) (cells : Span) → DeclaresSlice x t → well_slice (record { within = p; method = m }) t ≡ true → span_of s t ≡ Some cells
+      → (t : SliceTree) (cells : Span) → DeclaresSlice (names_of p m) s x t → well_slice (record { within = p; method = m }) t ≡ true → span_of s t ≡ Some cells
       → PairStands s x (element_type t).bits cells (lowered_slice (names_of p m) t).pointer (lowered_slice (names_of p m) t).length.code (lowered_slice (names_of p m) t).length.ty
       × IsIn (lowered_slice (names_of p m) t).length.ty (pos cells.count)
   pub statuses : (p : PackageTree) (m : MethodTree) (s : State) (x : Surroundings) → Stands p m s x
       → (t : StatusTree) (n : ℕ) → DeclaresStatus x t → well_status (record { within = p; method = m }) t ≡ true → status_value s t ≡ Some n
       → GivesStatus x (lowered_status (names_of p m) t) n
   pub conditions : (p : PackageTree) (m : MethodTree) (s : State) (x : Surroundings) → Stands p m s x
-      → (t : CondTree) (b : Bool) → DeclaresCond x t → well_cond (record { within = p; method = m }) t ≡ true → truth_of s t ≡ Some b
+      → (t : CondTree) (b : Bool) → DeclaresCond (names_of p m) s x t → well_cond (record { within = p; method = m }) t ≡ true → truth_of s t ≡ Some b
       → (v : CValue) × ((c.value x (lowered_cond (names_of p m) t) ≡ Some v) × (holds v ≡ b))
 
 -- What is in a cell once a number was assigned to it: the number, where the cell's width holds it.

@@ -3,7 +3,8 @@
 ghost use Rattle.wf_exprs_laws.specs.ExprLaw.{IsExprLaw, IsStored};
 ghost use Rattle.wf_exprs_laws.specs.HelperLaw.{IsHelperLaw};
 
-/// An expression that isn't stuck has the same value in C, and takes no undefined step.
+/// Where C's memory stands for what the source has, and what an expression uses is declared, an expression that isn't stuck has the
+/// same value in C, and takes no undefined step.
 pub fn expressions_have_their_values()
     ensures { IsExprLaw }
 {}

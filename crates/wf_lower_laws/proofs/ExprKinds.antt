@@ -23,7 +23,7 @@ use Rattle.c_meaning.specs.CValues.{common}
 use Rattle.c_meaning.specs.CTypes.{CScope, promoted, ExprType, numbers, points_to, zero_literal, byte, as_number, arithmetic_type, sum_type, one_type, test_type, operation_type, operations_type, type_of, operand_types, cast_from, literal_type}
 use Rattle.wf_exprs.specs.Names.{Names}
 use Rattle.wf_exprs.specs.Words.{literal, num, uint_of, width_of, two}
-use Rattle.wf_exprs.specs.Exprs.{calculated, rank, Rated, rated, recast, firm, balanced, with_operand, same_op, chained, cut_off, factor, linked, converted, is_held, is_array as is_whole, moved, part_pointer, part_length, io_code, place_code, end_code, peeked, raised, peek_code, asked_code, same_code, compared, is_literal, is_constant, statuses_compared, begins_with, category_code, lowered, lowered_slice, lowered_end, lowered_status, lowered_cond}
+use Rattle.wf_exprs.specs.Exprs.{calculated, rank, Rated, rated, recast, firm, balanced, with_operand, same_op, chained, cut_off, factor, linked, converted, is_held, is_array as is_whole, moved, part_pointer, part_length, io_code, place_code, end_code, bytes_code, peeked, raised, peek_code, asked_code, same_code, compared, is_literal, is_constant, statuses_compared, begins_with, category_code, lowered, lowered_slice, lowered_end, lowered_status, lowered_cond}
 use Rattle.wf_lower_laws.specs.KindLaw.{IsNum, IsPointer, IsText, IsBuffer, Declares, has_op, has_question, num_served, slice_served, end_served, status_served, cond_served, ExpressionsKeepKinds}
 
 module _ (S : CScope) where
@@ -268,7 +268,7 @@ module _ (S : CScope) where
   category_kind Suspension e h = begins_kind 36 e h
   category_kind Fault e h = begins_kind 35 e h
 
-  module _ (x : Context) (names : Names) (has : Bool → ℕ → Bool) (knows : ℕ → Bool) (d : Declares S x names has knows) where
+  module _ (x : Context) (names : Names) (has : Bool → ℕ → Bool) (knows reads : ℕ → Bool) (d : Declares S x names has knows reads) where
     linked_kind : (op : Arith) (bits : ℕ) (joined : Bool) (a b : Rated) → has_op has op bits ≡ true → IsNum S a.code → IsNum S b.code → IsNum S (linked op bits joined a b)
     linked_kind plus bits joined a b g h j = chained_kind joined Add (balanced bits a b) b.code (balanced_kind bits a b h) j
     linked_kind minus bits joined a b g h j = two_kind Sub (balanced bits a b) b.code (balanced_kind bits a b h) j
@@ -287,25 +287,25 @@ module _ (S : CScope) where
     linked_kind sat_plus bits joined a b g h j = d.calls true bits a.code b.code g h j
     linked_kind sat_minus bits joined a b g h j = d.calls false bits a.code b.code g h j
 
-    byte_kind : (a j : ℕ) → IsBuffer S names a → IsNum S (peeked names a j)
-    byte_kind a j b =
-        element_kind 8 _ _ b.bytes (kind_if (nat_eq j 0) (place_code names a) (two Add (place_code names a) (num j)) b.place (two_kind Add (place_code names a) (num j) b.place (num_kind j)))
+    byte_kind : (a j : ℕ) → IsBuffer S names a → IsPointer S 8 (bytes_code names a) → IsNum S (peeked names a j)
+    byte_kind a j b p =
+        element_kind 8 _ _ p (kind_if (nat_eq j 0) (place_code names a) (two Add (place_code names a) (num j)) b.place (two_kind Add (place_code names a) (num j) b.place (num_kind j)))
 
     raised_kind : (bits j : ℕ) (e : ExprTree) → IsNum S e → IsNum S (raised bits j e)
     raised_kind bits j e h = two_kind Shl _ (num (8 * j)) (kind_if (nat_eq bits 32) (cast (uint_of 32) e) e (cast_kind 32 e h) h) (num_kind (8 * j))
 
-    peek_kind : (a : ℕ) (form : PeekForm) → IsBuffer S names a → IsNum S (peek_code names a form).code
-    peek_kind a PeekU8 b = byte_kind a 0 b
-    peek_kind a PeekU16Le b = two_kind Add _ _ (byte_kind a 0 b) (raised_kind 16 1 _ (byte_kind a 1 b))
-    peek_kind a PeekU32Le b =
+    peek_kind : (a : ℕ) (form : PeekForm) → IsBuffer S names a → IsPointer S 8 (bytes_code names a) → IsNum S (peek_code names a form).code
+    peek_kind a PeekU8 b p = byte_kind a 0 b p
+    peek_kind a PeekU16Le b p = two_kind Add _ _ (byte_kind a 0 b p) (raised_kind 16 1 _ (byte_kind a 1 b p))
+    peek_kind a PeekU32Le b p =
         longer_kind Add (peeked names a 0) (raised 32 1 (peeked names a 1)) (operand (raised 32 2 (peeked names a 2)) no_operand) (raised 32 3 (peeked names a 3))
         (longer_kind Add (peeked names a 0) (raised 32 1 (peeked names a 1)) no_operand (raised 32 2 (peeked names a 2))
-        (two_kind Add (peeked names a 0) (raised 32 1 (peeked names a 1)) (byte_kind a 0 b) (raised_kind 32 1 _ (byte_kind a 1 b))) (raised_kind 32 2 _ (byte_kind a 2 b))) (raised_kind 32 3 _ (byte_kind a 3 b))
+        (two_kind Add (peeked names a 0) (raised 32 1 (peeked names a 1)) (byte_kind a 0 b p) (raised_kind 32 1 _ (byte_kind a 1 b p))) (raised_kind 32 2 _ (byte_kind a 2 b p))) (raised_kind 32 3 _ (byte_kind a 3 b p))
 
-    asked_kind : (a : ℕ) (question : Question) → may_ask question (type_at x (arg a)) ≡ true → has_question has question ≡ true → IsNum S (asked_code names a question).code
+    asked_kind : (a : ℕ) (question : Question) → may_ask question (type_at x (arg a)) ≡ true → has_question has reads question a ≡ true → IsNum S (asked_code names a question).code
     asked_kind a reader_length h g = let b = d.readers a h in two_kind Sub (end_code names a) (place_code names a) b.end b.place
     asked_kind a reader_position h g = let b = d.readers a h in d.calls true 64 (member (io_code names a) (codes "pos")) (place_code names a) g b.position b.place
-    asked_kind a (peek form) h g = peek_kind a form (d.readers a h)
+    asked_kind a (peek form) h g = peek_kind a form (d.readers a h) (d.bytes a h g)
     asked_kind a writer_length h g = let b = d.writers a h in two_kind Sub (end_code names a) (place_code names a) b.end b.place
     asked_kind a writer_position h g = let b = d.writers a h in d.calls true 64 (member (io_code names a) (codes "pos")) (place_code names a) g b.position b.place
 
@@ -313,14 +313,14 @@ module _ (S : CScope) where
     same_bits of own h = grind (arith, nat_tests, (both_true (nat_eq of.bits own.bits) _ h).0)
 
     mutual
-      number_kind : (t : NumTree) → well_part x t ≡ true → num_served has t ≡ true → IsNum S (lowered names t).code
+      number_kind : (t : NumTree) → well_part x t ≡ true → num_served has reads t ≡ true → IsNum S (lowered names t).code
       number_kind (number at n) w s = num_kind n
       number_kind (read at of path) w s = d.numbers of path (both_true (is_range of) (is_number of (type_at x path)) w).1
       number_kind (element at of cells index) w s =
           let p = both_true (same_num_type of (element_type cells)) _ w in
           let q = both_true (well_slice x cells) _ p.1 in
           let r = both_true (is_whole_number index) (well_part x index) q.1 in
-          let u = both_true (slice_served has cells) (num_served has index) s in
+          let u = both_true (slice_served has reads cells) (num_served has reads index) s in
           element_kind (element_type cells).bits _ _ (slice_kind cells q.0 u.0).0 (number_kind index r.1 u.1)
       number_kind (link at sign op bits joined a b) w s =
           let p = (both_true (is_width bits) _ w).1 in
@@ -330,8 +330,8 @@ module _ (S : CScope) where
           let v = (both_true (joined || is_whole_number a) _ u).1 in
           let y = both_true (well_part x a) _ v in
           let z = both_true (is_whole_number b) (well_part x b) y.1 in
-          let m = both_true (has_op has op bits) (num_served has a && num_served has b) s in
-          let n = both_true (num_served has a) (num_served has b) m.1 in
+          let m = both_true (has_op has op bits) (num_served has reads a && num_served has reads b) s in
+          let n = both_true (num_served has reads a) (num_served has reads b) m.1 in
           linked_kind op bits joined (lowered names a) (lowered names b) m.0 (number_kind a y.0 n.0) (number_kind b z.1 n.1)
       number_kind (convert at sign bits a) w s =
           let p = (both_true (is_width bits) _ w).1 in
@@ -339,21 +339,21 @@ module _ (S : CScope) where
       number_kind (length_of at cells) w s = (slice_kind cells w s).1
       number_kind (asked at question a) w s = asked_kind a question w s
 
-      slice_kind : (t : SliceTree) → well_slice x t ≡ true → slice_served has t ≡ true → IsPointer S (element_type t).bits (lowered_slice names t).pointer × IsNum S (lowered_slice names t).length.code
+      slice_kind : (t : SliceTree) → well_slice x t ≡ true → slice_served has reads t ≡ true → IsPointer S (element_type t).bits (lowered_slice names t).pointer × IsNum S (lowered_slice names t).length.code
       slice_kind (slice at bits path) w s = d.slices bits path w
       slice_kind (array at of count path) w s = (d.arrays of count path (both_true (is_range of) (is_array of count (type_at x path)) w).1, num_kind count)
       slice_kind (cut at cells from to) w s =
           let p = (both_true (is_unrefined (element_type cells)) _ w).1 in
           let q = both_true (well_slice x cells) _ p in
           let r = both_true (well_end x from) (well_end x to) q.1 in
-          let u = both_true (slice_served has cells) _ s in
-          let v = both_true (end_served has from) (end_served has to) u.1 in
+          let u = both_true (slice_served has reads cells) _ s in
+          let v = both_true (end_served has reads from) (end_served has reads to) u.1 in
           let it = slice_kind cells q.0 u.0 in
           let f = end_kind from r.0 v.0 in
           let t = end_kind to r.1 v.1 in
           (part_pointer_kind (is_whole cells) (element_type cells).bits _ (lowered_end names from) it.0 f, part_length_kind _ (lowered_end names from) (lowered_end names to) it.1 f t)
 
-      end_kind : (e : EndTree) → well_end x e ≡ true → end_served has e ≡ true → EndKind (lowered_end names e)
+      end_kind : (e : EndTree) → well_end x e ≡ true → end_served has reads e ≡ true → EndKind (lowered_end names e)
       end_kind absent w s = tt
       end_kind (present e) w s = number_kind e (both_true (is_whole_number e) (well_part x e) w).1 s
 
@@ -368,13 +368,13 @@ module _ (S : CScope) where
         (same_code_kind (lowered_status names a) (lowered_status names b) (is_constant b) (eq_kind (lowered_status names b) (lowered_status names a) j h) (ne_kind (lowered_status names a) (lowered_status names b) h j) (eq_kind (lowered_status names a) (lowered_status names b) h j))
     statuses_kind false a b h j = ne_kind (lowered_status names a) (lowered_status names b) h j
 
-    condition_kind : (t : CondTree) → well_cond x t ≡ true → cond_served has knows t ≡ true → IsNum S (lowered_cond names t)
+    condition_kind : (t : CondTree) → well_cond x t ≡ true → cond_served has knows reads t ≡ true → IsNum S (lowered_cond names t)
     condition_kind (truth at b) w s = num_kind (if b then 1 else 0)
     condition_kind (flag at path) w s = d.flags path w
     condition_kind (compare at sign a op b) w s =
         let p = (both_true _ (well_num x a && well_num x b) w).1 in
         let q = both_true (well_num x a) (well_num x b) p in
-        let u = both_true (num_served has a) (num_served has b) s in
+        let u = both_true (num_served has reads a) (num_served has reads b) s in
         compared_kind op _ _ (number_kind a (both_true (is_whole_number a) (well_part x a) q.0).1 u.0) (number_kind b (both_true (is_whole_number b) (well_part x b) q.1).1 u.1)
     condition_kind (same_status at sign a one b) w s =
         let p = both_true (well_status x a) (well_status x b) w in
@@ -382,12 +382,12 @@ module _ (S : CScope) where
         statuses_kind one a b (status_kind a p.0 u.0) (status_kind b p.1 u.1)
     condition_kind (junction at both joined a b) w s =
         let p = both_true (well_cond x a) (well_cond x b) w in
-        let u = both_true (cond_served has knows a) (cond_served has knows b) s in
+        let u = both_true (cond_served has knows reads a) (cond_served has knows reads b) s in
         chained_kind joined (if both then Both else Either) _ _ (condition_kind a p.0 u.0) (condition_kind b p.1 u.1)
     condition_kind (negation at a) w s = not_kind _ (condition_kind a w s)
     condition_kind (closed at a) w s = (d.readers a w).closed
     condition_kind (has_category at t category) w s = category_kind category _ (status_kind t w s)
 
 pub expressions_keep_kinds : ExpressionsKeepKinds
-expressions_keep_kinds s x names has knows d =
-    record { numbers = number_kind s x names has knows d; slices = slice_kind s x names has knows d; statuses = status_kind s x names has knows d; conditions = condition_kind s x names has knows d }
+expressions_keep_kinds s x names has knows reads d =
+    record { numbers = number_kind s x names has knows reads d; slices = slice_kind s x names has knows reads d; statuses = status_kind s x names has knows reads d; conditions = condition_kind s x names has knows reads d }

@@ -7,6 +7,7 @@ pub mod CodeBrackets
 pub mod CodeTypes
 pub mod Control
 pub mod EntryTypes
+pub mod ExampleLemmas
 pub mod Everywhere
 pub mod ExprBrackets
 pub mod ExprKinds

@@ -38,7 +38,7 @@ use Rattle.wf_lower_laws.proofs.OwnNames.{args_labels, args_all, labels, io_all,
 use Rattle.wf_lower_laws.proofs.NameLaw.{Words, named_at, from_front}
 use Rattle.wf_lower_laws.proofs.CodeTypes.{Cell, NumCell, held_fits, variable_num, member_num}
 use Rattle.wf_lower_laws.proofs.Frames.{same_bytes}
-use Rattle.wf_lower_laws.proofs.Typing.{all_helpers, known_status, around, reader_is_io, writer_is_io, KeptCells, Kept, IoCells, Callable, Serves}
+use Rattle.wf_lower_laws.proofs.Typing.{all_helpers, all_bytes, known_status, around, reader_is_io, writer_is_io, KeptCells, Kept, IoCells, Callable, Serves}
 use Rattle.wf_lower_laws.proofs.Finding.{found_front, found_behind, found_none, There, there_first, there_later, there_front, there_behind, there_map, there_found}
 use Rattle.wf_lower_laws.proofs.FieldNames.{labels as field_labels}
 use Rattle.wf_lower_laws.proofs.Statuses.{all_texts, constant_text, saturated_num}
@@ -568,7 +568,6 @@ module _ (p : PackageTree) (n : ℕ) (m : MethodTree) (structs : List StructDecl
           end = variable_num T size (io_end f.names i) refl (buffer_end i v e h).held;
           position = member_num T (uint U64) (io_code f.names i) (codes "pos") refl (io_position T g.io (io_code f.names i) t);
           closed = member_num T boolean (io_code f.names i) (codes "closed") refl (io_closed T g.io (io_code f.names i) t);
-          bytes = buffer_bytes i v e h;
         }
 
     arg_buffer : (i : ℕ) (test : Option Ty → Bool) → test (type_at (around f) (arg i)) ≡ true → test None ≡ false → ((ty : Ty) → test (Some ty) ≡ true → is_io ty ≡ true) → IsBuffer T f.names i
@@ -577,7 +576,13 @@ module _ (p : PackageTree) (n : ℕ) (m : MethodTree) (structs : List StructDecl
         let v = variable_of m.args i ty.0 ty.1.0 in
         buffer_of i (record { name = v.0; ty = ty.0 }) v.1 (every ty.0 ty.1.1)
 
-    pub declares : Declares T (around f) f.names all_helpers (known_status (around f))
+    arg_bytes : (i : ℕ) → is_reader (type_at (around f) (arg i)) ≡ true → IsPointer T 8 (bytes_code f.names i)
+    arg_bytes i h =
+        let ty = some_type (type_at (around f) (arg i)) is_reader h refl in
+        let v = variable_of m.args i ty.0 ty.1.0 in
+        buffer_bytes i (record { name = v.0; ty = ty.0 }) v.1 (reader_is_io ty.0 ty.1.1)
+
+    pub declares : Declares T (around f) f.names all_helpers (known_status (around f)) all_bytes
     declares = record {
       numbers = λ of path h. path_num path (number_cell of path h);
       flags = λ path h. path_num path (flag_cell path h);
@@ -586,6 +591,7 @@ module _ (p : PackageTree) (n : ℕ) (m : MethodTree) (structs : List StructDecl
       arrays = λ of count path h. (let ty = some_type (type_at (around f) path) (is_array of count) h refl in array_pointer of count path ty.0 ty.1.0 ty.1.1);
       readers = λ a h. arg_buffer a is_reader h refl reader_is_io;
       writers = λ a h. arg_buffer a is_writer h refl writer_is_io;
+      bytes = λ a h r. arg_bytes a h;
       constants = λ k h. constant_text T p.statuses refl g.few k h (no_status_name k);
       calls = λ sum bits x y w h j. saturated_num T fs refl sum bits x y w h j;
     }
@@ -697,6 +703,7 @@ module _ (p : PackageTree) (n : ℕ) (m : MethodTree) (structs : List StructDecl
           field_num = places.1.0 t;
           limit = places.1.1 t;
           pointer = t;
+          bytes = buffer_bytes i v e h;
         }
       where
         cell_of : (name : List ℕ) → held_of T (member (io_code f.names i) name) ≡ Some (one size) → NumCell Settled T (member (io_code f.names i) name)

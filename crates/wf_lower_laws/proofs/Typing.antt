@@ -48,6 +48,9 @@ use Rattle.wf_lower_laws.proofs.CodeTypes.{Fits, num_fits, text_fits, pointer_fi
 abbrev pub all_helpers : (sum : Bool) → (bits : ℕ) → Bool
 all_helpers sum bits = is_width bits
 
+abbrev pub all_bytes : (io_arg : ℕ) → Bool
+all_bytes a = true
+
 module _ (x : Context) where
   op_served : (op : Arith) (bits : ℕ) → is_width bits ≡ true → has_op all_helpers op bits ≡ true
   op_served sat_plus bits w = w
@@ -67,22 +70,22 @@ module _ (x : Context) where
   op_served mod_times bits w = refl
   op_served mod_shift_left bits w = refl
 
-  question_served : (q : Question) → has_question all_helpers q ≡ true
-  question_served reader_length = refl
-  question_served reader_position = refl
-  question_served (peek form) = refl
-  question_served writer_length = refl
-  question_served writer_position = refl
+  question_served : (q : Question) (a : ℕ) → has_question all_helpers all_bytes q a ≡ true
+  question_served reader_length a = refl
+  question_served reader_position a = refl
+  question_served (peek form) a = refl
+  question_served writer_length a = refl
+  question_served writer_position a = refl
 
   mutual
-    served_num : (t : NumTree) → well_part x t ≡ true → num_served all_helpers t ≡ true
+    served_num : (t : NumTree) → well_part x t ≡ true → num_served all_helpers all_bytes t ≡ true
     served_num (number at n) w = refl
     served_num (read at of path) w = refl
     served_num (element at of cells index) w =
         let p = both_true (same_num_type of (element_type cells)) _ w in
         let q = both_true (well_slice x cells) _ p.1 in
         let r = both_true (is_whole_number index) (well_part x index) q.1 in
-        both_hold (slice_served all_helpers cells) (num_served all_helpers index) (served_slice cells q.0) (served_num index r.1)
+        both_hold (slice_served all_helpers all_bytes cells) (num_served all_helpers all_bytes index) (served_slice cells q.0) (served_num index r.1)
     served_num (link at sign op bits joined a b) w =
         let o = both_true (is_width bits) _ w in
         let q = (both_true (fits bits a) _ o.1).1 in
@@ -91,23 +94,23 @@ module _ (x : Context) where
         let v = (both_true (joined || is_whole_number a) _ u).1 in
         let y = both_true (well_part x a) _ v in
         let z = both_true (is_whole_number b) (well_part x b) y.1 in
-        both_hold (has_op all_helpers op bits) _ (op_served op bits o.0) (both_hold (num_served all_helpers a) (num_served all_helpers b) (served_num a y.0) (served_num b z.1))
+        both_hold (has_op all_helpers op bits) _ (op_served op bits o.0) (both_hold (num_served all_helpers all_bytes a) (num_served all_helpers all_bytes b) (served_num a y.0) (served_num b z.1))
     served_num (convert at sign bits a) w =
         let p = (both_true (is_width bits) _ w).1 in
         served_num a (both_true (is_whole_number a) (well_part x a) p).1
     served_num (length_of at cells) w = served_slice cells w
-    served_num (asked at question a) w = question_served question
+    served_num (asked at question a) w = question_served question a
 
-    served_slice : (t : SliceTree) → well_slice x t ≡ true → slice_served all_helpers t ≡ true
+    served_slice : (t : SliceTree) → well_slice x t ≡ true → slice_served all_helpers all_bytes t ≡ true
     served_slice (slice at bits path) w = refl
     served_slice (array at of count path) w = refl
     served_slice (cut at cells from to) w =
         let p = (both_true (is_unrefined (element_type cells)) _ w).1 in
         let q = both_true (well_slice x cells) _ p in
         let r = both_true (well_end x from) (well_end x to) q.1 in
-        both_hold (slice_served all_helpers cells) _ (served_slice cells q.0) (both_hold (end_served all_helpers from) (end_served all_helpers to) (served_end from r.0) (served_end to r.1))
+        both_hold (slice_served all_helpers all_bytes cells) _ (served_slice cells q.0) (both_hold (end_served all_helpers all_bytes from) (end_served all_helpers all_bytes to) (served_end from r.0) (served_end to r.1))
 
-    served_end : (e : EndTree) → well_end x e ≡ true → end_served all_helpers e ≡ true
+    served_end : (e : EndTree) → well_end x e ≡ true → end_served all_helpers all_bytes e ≡ true
     served_end absent w = refl
     served_end (present e) w = served_num e (both_true (is_whole_number e) (well_part x e) w).1
 
@@ -119,19 +122,19 @@ module _ (x : Context) where
   served_status (held at path) w = refl
   served_status no_status w = refl
 
-  served_cond : (t : CondTree) → well_cond x t ≡ true → cond_served all_helpers known_status t ≡ true
+  served_cond : (t : CondTree) → well_cond x t ≡ true → cond_served all_helpers known_status all_bytes t ≡ true
   served_cond (truth at b) w = refl
   served_cond (flag at path) w = refl
   served_cond (compare at sign a op b) w =
       let p = (both_true _ (well_num x a && well_num x b) w).1 in
       let q = both_true (well_num x a) (well_num x b) p in
-      both_hold (num_served all_helpers a) (num_served all_helpers b) (served_num a (both_true (is_whole_number a) (well_part x a) q.0).1) (served_num b (both_true (is_whole_number b) (well_part x b) q.1).1)
+      both_hold (num_served all_helpers all_bytes a) (num_served all_helpers all_bytes b) (served_num a (both_true (is_whole_number a) (well_part x a) q.0).1) (served_num b (both_true (is_whole_number b) (well_part x b) q.1).1)
   served_cond (same_status at sign a same b) w =
       let p = both_true (well_status x a) (well_status x b) w in
       both_hold (status_served known_status a) (status_served known_status b) (served_status a p.0) (served_status b p.1)
   served_cond (junction at both joined a b) w =
       let p = both_true (well_cond x a) (well_cond x b) w in
-      both_hold (cond_served all_helpers known_status a) (cond_served all_helpers known_status b) (served_cond a p.0) (served_cond b p.1)
+      both_hold (cond_served all_helpers known_status all_bytes a) (cond_served all_helpers known_status all_bytes b) (served_cond a p.0) (served_cond b p.1)
   served_cond (negation at a) w = served_cond a w
   served_cond (closed at a) w = refl
   served_cond (has_category at t category) w = served_status t w
@@ -171,7 +174,7 @@ module _ (c : Checked) (f : Form) (Settled : List ℕ → Type 0) (CallOk : List
   abbrev m : MethodTree
   m = f.method
 
-  -- A reader or writer, the argument with this number.
+  -- A reader or writer, the argument with this number, with the pointer to its bytes.
   pub record IoCells (n : ℕ) (ty : Ty) : Type 0 where
     pub place : NumCell Settled S (place_code f.names n)
     pub end : NumCell Settled S (end_code f.names n)
@@ -179,6 +182,7 @@ module _ (c : Checked) (f : Form) (Settled : List ℕ → Type 0) (CallOk : List
     pub field_num : IsNum S (place_in (io_code f.names n) ty)
     pub limit : IsNum S (end_of (io_code f.names n) ty)
     pub pointer : type_of S (io_code f.names n) ≡ Some (points_to (object io_buffer))
+    pub bytes : IsPointer S 8 (bytes_code f.names n)
 
   -- A local that is kept, and the field that keeps it.
   pub record KeptCells (v : Variable) : Type 0 where
@@ -204,7 +208,7 @@ module _ (c : Checked) (f : Form) (Settled : List ℕ → Type 0) (CallOk : List
     pub ok : CallOk (callee_name f.within called callee)
 
   pub record Serves (known : ℕ → Bool) : Type 0 where
-    pub declares : Declares S x f.names all_helpers (known_status x)
+    pub declares : Declares S x f.names all_helpers (known_status x) all_bytes
     pub base : (n : ℕ) → n ≡ short_read ⊎ ((n ≡ short_write) ⊎ (n ≡ cannot_suspend)) → known_status x n ≡ true
     pub numbers : (of : NumType) (path : Path) → may_write m.mark path ≡ true → is_number of (type_at x path) ≡ true → NumCell Settled S (path_code f.names path)
     pub flags : (path : Path) → may_write m.mark path ≡ true → is_flag (type_at x path) ≡ true → NumCell Settled S (path_code f.names path)
@@ -234,8 +238,8 @@ module _ (c : Checked) (f : Form) (Settled : List ℕ → Type 0) (CallOk : List
     done : Ok finish
     done = ok_finish c Settled CallOk
 
-    kinds : KeepKinds S x f.names all_helpers (known_status x)
-    kinds = expressions_keep_kinds S x f.names all_helpers (known_status x) s.declares
+    kinds : KeepKinds S x f.names all_helpers (known_status x) all_bytes
+    kinds = expressions_keep_kinds S x f.names all_helpers (known_status x) all_bytes s.declares
 
     -- ---- expressions
 
@@ -351,20 +355,19 @@ module _ (c : Checked) (f : Form) (Settled : List ℕ → Type 0) (CallOk : List
     record Buffer (a : ℕ) : Type 0 where
       ty : Ty
       cells : IoCells a ty
-      bytes : IsPointer S 8 (bytes_code f.names a)
 
-    found_buffer : (a : ℕ) (test : Option Ty → Bool) → test (type_at x (arg a)) ≡ true → (test None ≡ true → ⊥) → ((ty : Ty) → test (Some ty) ≡ true → is_io ty ≡ true) → IsPointer S 8 (bytes_code f.names a) → Buffer a
-    found_buffer a test h none every bytes = by (slice_get m.args a) refl h
+    found_buffer : (a : ℕ) (test : Option Ty → Bool) → test (type_at x (arg a)) ≡ true → (test None ≡ true → ⊥) → ((ty : Ty) → test (Some ty) ≡ true → is_io ty ≡ true) → Buffer a
+    found_buffer a test h none every = by (slice_get m.args a) refl h
       where
         by : (o : Option Variable) → slice_get m.args a ≡ o → test (option_map (λ v. v.ty) o) ≡ true → Buffer a
         by None e k = absurd (none k)
-        by (Some v) e k = record { ty = v.ty; cells = s.buffers a v e (every v.ty k); bytes = bytes }
+        by (Some v) e k = record { ty = v.ty; cells = s.buffers a v e (every v.ty k) }
 
     reader_ok : (a : ℕ) → is_reader (type_at x (arg a)) ≡ true → Buffer a
-    reader_ok a h = found_buffer a is_reader h (λ e. absurd (cc e)) reader_is_io (s.declares.readers a h).bytes
+    reader_ok a h = found_buffer a is_reader h (λ e. absurd (cc e)) reader_is_io
 
     writer_ok : (a : ℕ) → is_writer (type_at x (arg a)) ≡ true → Buffer a
-    writer_ok a h = found_buffer a is_writer h (λ e. absurd (cc e)) writer_is_io (s.declares.writers a h).bytes
+    writer_ok a h = found_buffer a is_writer h (λ e. absurd (cc e)) writer_is_io
 
     -- ---- ends of calls
 
@@ -459,7 +462,7 @@ module _ (c : Checked) (f : Form) (Settled : List ℕ → Type 0) (CallOk : List
     bits_taken to_nothing bits v w h = tt
 
     element_num8 : (a : ℕ) → Buffer a → IsNum S (next_byte f.names a)
-    element_num8 a b = element_num 8 _ _ b.bytes (place_num a b.ty b.cells)
+    element_num8 a b = element_num 8 _ _ b.cells.bytes (place_num a b.ty b.cells)
 
     step_ok : (a : ℕ) (e : ExprTree) (rest : Code) → Buffer a → IsNum S e → Ok rest → Ok (step_on f.names a e rest)
     step_ok a e rest b h ok =
@@ -598,7 +601,7 @@ module _ (c : Checked) (f : Form) (Settled : List ℕ → Type 0) (CallOk : List
         let q = both_true (has_none t) _ p.1 in
         let r = both_true (may_go_into 8 n) (well_num x n) q.1 in
         ok_when c Settled CallOk _ _ _ (used_ok a b) (suspends_ok k (status_constant short_write) finish co (constant_ok short_write (s.base short_write (inr (inl refl)))) done)
-        (ok_number c Settled CallOk (next_byte f.names a) (written_byte f.names n) _ (element_cell 8 _ _ b.bytes (place_num a b.ty b.cells)) (stays_same n r.1) (step_ok a (num 1) rest b (num_kind S 1) ok))
+        (ok_number c Settled CallOk (next_byte f.names a) (written_byte f.names n) _ (element_cell 8 _ _ b.cells.bytes (place_num a b.ty b.cells)) (stays_same n r.1) (step_ok a (num 1) rest b (num_kind S 1) ok))
 
     -- What has begun is read where it goes on.
     reads_behind : (name : List ℕ) (k : ℕ) (rest : Code) → code_reads name rest ≡ true → code_reads name (resume_here k rest) ≡ true
@@ -679,7 +682,7 @@ module _ (c : Checked) (f : Form) (Settled : List ℕ → Type 0) (CallOk : List
         let q = both_true (has_none t) _ p.1 in
         let r = both_true (may_go_into 8 n) (well_num x n) q.1 in
         let b = writer_ok a p.0 in
-        ok_number c Settled CallOk (next_byte f.names a) (given f.names n) _ (element_cell 8 _ _ b.bytes (place_num a b.ty b.cells)) (given_ok n r.1) (step_ok a (num 1) rest b (num_kind S 1) ok)
+        ok_number c Settled CallOk (next_byte f.names a) (given f.names n) _ (element_cell 8 _ _ b.cells.bytes (place_num a b.ty b.cells)) (given_ok n r.1) (step_ok a (num 1) rest b (num_kind S 1) ok)
     written_ok t (copy_to_writer a source) rest w ok =
         let p = both_true (is_writer (type_at x (arg a))) _ w in
         let q = both_true (takes_bits x t 64) _ p.1 in
@@ -689,7 +692,7 @@ module _ (c : Checked) (f : Form) (Settled : List ℕ → Type 0) (CallOk : List
         let same : (element_type source).bits ≡ 8 = grind (arith, nat_tests, r.1) in
         let P : ℕ → Type 0 = λ bits. IsPointer S bits (lowered_slice f.names source).pointer in
         least_ok _ (there f.names a) _ it.1 (there_ok a b)
-        (move_ok 8 8 (two Add (bytes_code f.names a) (place_code f.names a)) _ _ (plus_kind S 8 (bytes_code f.names a) (place_code f.names a) b.bytes (place_num a b.ty b.cells)) (subst P same it.0)
+        (move_ok 8 8 (two Add (bytes_code f.names a) (place_code f.names a)) _ _ (plus_kind S 8 (bytes_code f.names a) (place_code f.names a) b.cells.bytes (place_num a b.ty b.cells)) (subst P same it.0)
         (step_ok a size_local _ b size_num (into_ok t size_local rest (bits_taken t 64 size_local q.0 size_num) ok)))
     written_ok t (copy_to_slice to source) rest w ok =
         let p = both_true (takes_bits x t 64) _ w in

@@ -9,3 +9,4 @@ pub mod ItemLaw
 pub mod SurfaceLaw
 pub mod FieldLaw
 pub mod TypeLaw
+pub mod Examples

@@ -69,7 +69,8 @@ pub fn items_of_a_text_are_typed()
 {}
 
 /// In a scope that declares what a method's paths name, each expression of the method that keeps the rules of types has its kind in
-/// C: a number, a pointer to numbers of a width with a length, or a status.
+/// C: a number, a pointer to numbers of a width with a length, or a status. The scope declares besides what the expression uses of
+/// statuses, functions of saturating operators, and pointers to a reader's bytes.
 pub fn expressions_keep_their_kinds()
     ensures { ExpressionsKeepKinds }
 {}
