@@ -1,2 +1,3 @@
-pub mod PlaceLemmas
+pub mod FoundLemmas
 pub mod TableLemmas
+pub mod TextLemmas
