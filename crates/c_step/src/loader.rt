@@ -33,7 +33,8 @@ pub trait Loader {
     /// Takes all memory that the engine needs. The receivers are of the package's public structs, zero or null, and none of
     /// them is initialized; the package's first status is ok, whose text is empty. `NoSuchForm`: the text hasn't the unit form
     /// for the package with this surface; its number is that of the first item that breaks it, or of the items, where there is
-    /// none or a public function is missing. `Memory`: memory was refused.
+    /// none or a public function is missing. `Memory`: memory was refused, or the engine has no room for a chain of calls as
+    /// long as one in the text.
     fn load(
         &mut self,
         alloc: Global,

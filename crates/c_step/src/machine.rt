@@ -48,7 +48,8 @@ impl Model for Machine {
 impl Machine {
     /// The machine of a text for the package with this surface, before anything has run: the receivers, of public structs, are
     /// zero or null. `NoSuchForm`: the text hasn't the unit form for the package; its number is that of the first item that
-    /// breaks it, or of the items, where there is none or a public function is missing. `Memory`: memory was refused.
+    /// breaks it, or of the items, where there is none or a public function is missing. `Memory`: memory was refused, or more
+    /// than 4,096 functions call one another in a chain, for which the machine's own stack has no room.
     pub fn load(
         alloc: Global,
         u: Unit,
@@ -110,7 +111,7 @@ impl Machine {
 
     /// How many parameters and locals at most the functions of one chain of calls have together, of the chains that begin at
     /// an external function of the text.
-    pub(crate) fn frame_cells(&self) -> u64
+    pub fn frame_cells(&self) -> u64
         ensures { result ≡ program_cells (program_of (unit_tree self.now.nodes)) }
     {
         self.known.cells

@@ -25,8 +25,8 @@ fn depth_at(code: &Code, depths: &[u64], k: usize) -> Result<u64, NoMemory>
     }
 }
 
-/// Whether no chain of calls has more than 4,096 functions: a call of the text is one of the machine too, whose stack has its
-/// bounds. `NoMemory` where one has, or where memory was refused.
+/// That no chain of calls has more than 4,096 functions: a call of the text is one of the machine too, whose stack has its
+/// bounds. `NoMemory` where one has, as the inits of 4,097 structs that hold one another, or where memory was refused.
 pub(crate) fn check_depths(alloc: Global, code: &Code) -> Result<(), NoMemory>
     ensures { OnOk result (AreShallow code.now) }
 {

@@ -3,6 +3,8 @@ pub mod GivesLaws
 pub mod CallLaws
 pub mod EngineLaws
 pub mod FreshLaws
+pub mod LevelLaws
 pub mod LoopLaws
 pub mod ReceiverLaws
+pub mod SizeLaws
 pub mod ToldLaws

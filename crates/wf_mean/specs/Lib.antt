@@ -1,3 +1,4 @@
 pub mod SourceEngines
 pub mod Machines
+pub mod Sizes
 pub mod Told

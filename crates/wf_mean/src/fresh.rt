@@ -1,25 +1,24 @@
 // The struct states of new receivers, and the frames of a package's methods: all the memory that the machine takes.
 
-ghost use Rattle.std.specs.Prelude.{◌≡◌, ◌++◌, ◌∷◌, [], length, map, replicate, None, All, IfOk, OnOk};
+ghost use Rattle.std.specs.Prelude.{◌≡◌, ◌+◌, ◌++◌, ◌∷◌, [], length, map, reverse, None, All, IfOk, OnOk};
 ghost use Rattle.wf_ast.specs.TypedInvariant.{IsTyped};
-ghost use Rattle.wf_ast.specs.TypedPackage.{package_of, variable_of};
+ghost use Rattle.wf_ast.specs.TypedPackage.{package_of};
 ghost use Rattle.wf_bufs.specs.SurfaceViews.{receiver_of};
-ghost use Rattle.wf_meaning.specs.SourceState.{fields_of as fields_in, fresh_field, fresh_fields, fresh_receiver, inside_field, inside_fields, fresh_state, raw, raw_objects};
+ghost use Rattle.wf_meaning.specs.SourceState.{fresh_field, fresh_receiver, fresh_state};
 ghost use Rattle.wf_mean_exprs.specs.MachineState.{field_seen, object_seen};
 ghost use Rattle.wf_mean_runs.specs.Frames.{local_counts, sizes_for, sizes_of};
 ghost use Rattle.wf_mean_stmts.specs.Stages.{kept_lengths};
 ghost use Rattle.wf_mean.specs.Machines.{AreFrames, KeepAll, ReceiversKeepAll, receiver_seen, receivers_seen};
+ghost use Rattle.wf_mean.specs.Sizes.{AreSizes, field_types, fields_from, raw_with, states_of, structs_in};
 
 use crate::receivers::ReceiverState;
+use crate::sizes::{fields_of, size_inside, struct_sizes, sum};
 use std::alloc::Global;
 use wf_ast::{Ty, Typed, Var};
 use wf_bufs::ReceiverDecl;
 use wf_mean_exprs::objects::{FieldState, Frame, KeptBody, LifeState, ObjectState, Progress};
 use wf_mean_exprs::values::Slot;
-use wf_text::{MethodId, NoMemory, StructId};
-
-// How many struct states have numbers.
-const NUMBERS: usize = 4294967295;
+use wf_text::{MethodId, NoMemory};
 
 fn slots(alloc: Global, count: usize) -> Result<Vec<Slot>, NoMemory>
     ensures { IfOk result (λ slots. length slots.items ≡ count) }
@@ -55,23 +54,30 @@ fn fresh_bodies(alloc: Global, t: &Typed) -> Result<Vec<KeptBody>, NoMemory>
     Ok(kept)
 }
 
-// A struct state that was never made ready, as yet without its fields.
-fn raw_object(alloc: Global, t: &Typed) -> Result<ObjectState, NoMemory>
+// A struct state that was never made ready, with these fields.
+fn raw_object(alloc: Global, t: &Typed, fields: Vec<FieldState>) -> Result<ObjectState, NoMemory>
     requires typed { IsTyped t.now }
-    ensures raw { IfOk result (λ o. object_seen (package_of t.now) o ≡ record { life = raw; fields = []; active = None; remaining = replicate (length (package_of t.now).methods) None }) }
+    ensures raw { IfOk result (λ o. object_seen (package_of t.now) o ≡ raw_with (package_of t.now) (map field_seen fields.items)) }
     ensures kept { IfOk result (λ o. kept_lengths o ≡ local_counts t.now) }
 {
     let kept = fresh_bodies(alloc, t)?;
     Ok(ObjectState {
         life: LifeState::Raw,
-        fields: Vec::new(alloc),
+        fields,
         active: None,
         kept,
     })
 }
 
+// The number of a struct state; want of memory where it is no such number.
+fn number(n: usize) -> Result<u32, NoMemory>
+    ensures { IfOk result (λ number. number ≡ n) }
+{
+    u32::try_from(n).map_err(|_| NoMemory)
+}
+
 // What stands in a field of this type at first. The struct state in a field of struct type has the number `next`.
-fn new_field(alloc: Global, next: u32, ty: Ty) -> Result<FieldState, NoMemory>
+fn new_field(alloc: Global, next: usize, ty: Ty) -> Result<FieldState, NoMemory>
     ensures { IfOk result (λ field. field_seen field ≡ fresh_field next ty) }
 {
     match ty {
@@ -82,112 +88,107 @@ fn new_field(alloc: Global, next: u32, ty: Ty) -> Result<FieldState, NoMemory>
             let cells = vec![in alloc; 0; len as usize]?;
             Ok(FieldState::Cells(cells))
         }
-        Ty::Part(_) => Ok(FieldState::Part(next)),
+        Ty::Part(_) => {
+            let number = number(next)?;
+            Ok(FieldState::Part(number))
+        }
         Ty::Reader => Ok(FieldState::Num(0)),
         Ty::Writer => Ok(FieldState::Num(0)),
         Ty::Slice(_) => Ok(FieldState::Num(0)),
     }
 }
 
-// The number of the struct state that comes next; want of memory where no number is left.
-fn next_number(objects: &[ObjectState]) -> Result<u32, NoMemory>
-    ensures { IfOk result (λ next. next ≡ length objects.now) }
-{
-    if objects.len() > NUMBERS {
-        return Err(NoMemory);
-    }
-    Ok(objects.len() as u32)
-}
-
-// The fields of a struct.
-fn fields_of(t: &Typed, s: u32) -> &[Var]
-    ensures { map (variable_of t.now) result.now ≡ fields_in (package_of t.now) s }
-{
-    if s < t.structs() {
-        t.structure(StructId(s)).fields.as_slice()
-    } else {
-        &[]
-    }
-}
-
-/// Adds a new struct state of the struct `s`, and after it those inside it, to so many levels; want of memory leaves some of
-/// them. No struct holds itself, so there are at most as many levels as structs.
-#[cycle(making)]
-pub(crate) fn add_object(
+// What stands in these fields at first, where the struct states inside them are numbered from `from` on.
+fn new_fields(
     alloc: Global,
-    t: &Typed,
-    s: u32,
-    levels: u32,
-    objects: &mut Vec<ObjectState>,
-) -> Result<(), NoMemory>
-    requires typed { IsTyped t.now }
-    requires kept { KeepAll t.now objects.old.items }
-    ensures added { OnOk result (map (object_seen (package_of t.now)) objects.new.items ≡ map (object_seen (package_of t.now)) objects.old.items ++ raw_objects (package_of t.now) levels s (length objects.old.items)) }
-    ensures kept { KeepAll t.now objects.new.items }
-{
-    if levels == 0 {
-        return Ok(());
-    }
-    let number = objects.len();
-    let own = raw_object(alloc, t)?;
-    objects.push(own)?;
-    let mut fields = Vec::new(alloc);
-    add_fields(alloc, t, fields_of(t, s), levels - 1, &mut fields, objects)?;
-    objects[number].fields = fields;
-    Ok(())
-}
-
-// Adds what stands at first in these fields to `fields`, and the struct states inside them to `objects`.
-#[cycle(making)]
-fn add_fields(
-    alloc: Global,
-    t: &Typed,
+    sizes: &[usize],
     declared: &[Var],
-    levels: u32,
-    fields: &mut Vec<FieldState>,
-    objects: &mut Vec<ObjectState>,
-) -> Result<(), NoMemory>
-    requires typed { IsTyped t.now }
-    requires kept { KeepAll t.now objects.old.items }
-    ensures fields { OnOk result (map field_seen fields.new.items ≡ map field_seen fields.old.items ++ fresh_fields (raw_objects (package_of t.now) levels) (length objects.old.items) (map (variable_of t.now) declared.now)) }
-    ensures objects { OnOk result (map (object_seen (package_of t.now)) objects.new.items ≡ map (object_seen (package_of t.now)) objects.old.items ++ inside_fields (raw_objects (package_of t.now) levels) (length objects.old.items) (map (variable_of t.now) declared.now)) }
-    ensures kept { KeepAll t.now objects.new.items }
+    from: usize,
+) -> Result<Vec<FieldState>, NoMemory>
+    ensures { IfOk result (λ fields. map field_seen fields.items ≡ fields_from sizes.now from (map (λ x. x.ty) declared.now)) }
 {
+    let mut fields = Vec::new(alloc);
+    let mut next = from;
     for i in 0..declared.len() {
-        add_field(alloc, t, declared[i].ty, levels, fields, objects)?;
+        let ty = declared[i].ty;
+        let field = new_field(alloc, next, ty)?;
+        fields.push(field)?;
+        next = sum(next, size_inside(sizes, ty))?;
+    }
+    Ok(fields)
+}
+
+// Puts the numbers of the structs in these fields on a stack, the first one on top.
+fn put_inside(declared: &[Var], left: &mut Vec<u32>) -> Result<(), NoMemory>
+    ensures { OnOk result (reverse left.new.items ≡ structs_in (map (λ x. x.ty) declared.now) ++ reverse left.old.items) }
+{
+    let mut i = declared.len();
+    while i > 0 {
+        i -= 1;
+        match declared[i].ty {
+            Ty::Part(s) => left.push(s.0)?,
+            Ty::Num { .. } | Ty::Flag | Ty::Status | Ty::Reader => {}
+            Ty::Writer | Ty::Slice(_) | Ty::Array { .. } => {}
+        }
     }
     Ok(())
 }
 
-// Adds what stands at first in a field of this type, and the struct states inside it.
-#[cycle(making)]
-fn add_field(
+// Adds a struct state of the struct `s`, and puts the structs of those inside it on the stack of what is left.
+fn add_object(
     alloc: Global,
     t: &Typed,
-    ty: Ty,
-    levels: u32,
-    fields: &mut Vec<FieldState>,
+    sizes: &[usize],
+    s: u32,
+    left: &mut Vec<u32>,
     objects: &mut Vec<ObjectState>,
 ) -> Result<(), NoMemory>
     requires typed { IsTyped t.now }
     requires kept { KeepAll t.now objects.old.items }
-    ensures field { OnOk result (map field_seen fields.new.items ≡ map field_seen fields.old.items ++ fresh_field (length objects.old.items) ty ∷ []) }
-    ensures objects { OnOk result (map (object_seen (package_of t.now)) objects.new.items ≡ map (object_seen (package_of t.now)) objects.old.items ++ inside_field (raw_objects (package_of t.now) levels) (length objects.old.items) ty) }
-    ensures kept { KeepAll t.now objects.new.items }
+    ensures left { OnOk result (reverse left.new.items ≡ structs_in (field_types (package_of t.now) s) ++ reverse left.old.items) }
+    ensures added { OnOk result (map (object_seen (package_of t.now)) objects.new.items ≡ map (object_seen (package_of t.now)) objects.old.items ++ raw_with (package_of t.now) (fields_from sizes.now (length objects.old.items + 1) (field_types (package_of t.now) s)) ∷ []) }
+    ensures kept { OnOk result (KeepAll t.now objects.new.items) }
 {
-    let next = next_number(objects.as_slice())?;
-    let field = new_field(alloc, next, ty)?;
-    fields.push(field)?;
-    match ty {
-        Ty::Part(s) => add_object(alloc, t, s.0, levels, objects),
-        Ty::Num { .. } | Ty::Flag | Ty::Status | Ty::Reader => Ok(()),
-        Ty::Writer | Ty::Slice(_) | Ty::Array { .. } => Ok(()),
+    let declared = fields_of(t, s);
+    put_inside(declared, left)?;
+    let inside = sum(objects.len(), 1)?;
+    let fields = new_fields(alloc, sizes, declared, inside)?;
+    let object = raw_object(alloc, t, fields)?;
+    objects.push(object)?;
+    Ok(())
+}
+
+// Adds a struct state of the struct `s` and those inside it, each before those inside it and after those that stand before it.
+fn add_objects(
+    alloc: Global,
+    t: &Typed,
+    sizes: &[usize],
+    s: u32,
+    objects: &mut Vec<ObjectState>,
+) -> Result<(), NoMemory>
+    requires typed { IsTyped t.now }
+    requires sizes { AreSizes (package_of t.now) sizes.now }
+    requires kept { KeepAll t.now objects.old.items }
+    ensures added { OnOk result (map (object_seen (package_of t.now)) objects.new.items ≡ map (object_seen (package_of t.now)) objects.old.items ++ states_of (package_of t.now) s (length objects.old.items)) }
+    ensures kept { OnOk result (KeepAll t.now objects.new.items) }
+{
+    let mut left = Vec::new(alloc);
+    left.push(s)?;
+    while let Some(s) = left.pop() {
+        add_object(alloc, t, sizes, s, &mut left, objects)?;
     }
+    Ok(())
 }
 
 // A new receiver.
-fn new_receiver(alloc: Global, t: &Typed, decl: ReceiverDecl) -> Result<ReceiverState, NoMemory>
+fn new_receiver(
+    alloc: Global,
+    t: &Typed,
+    sizes: &[usize],
+    decl: ReceiverDecl,
+) -> Result<ReceiverState, NoMemory>
     requires typed { IsTyped t.now }
+    requires sizes { AreSizes (package_of t.now) sizes.now }
     ensures declared { IfOk result (λ r. r.decl ≡ decl) }
     ensures fresh { IfOk result (λ r. receiver_seen (package_of t.now) r ≡ fresh_receiver (package_of t.now) decl.null decl.of.0) }
     ensures kept { IfOk result (λ r. KeepAll t.now r.objects.items) }
@@ -196,10 +197,7 @@ fn new_receiver(alloc: Global, t: &Typed, decl: ReceiverDecl) -> Result<Receiver
     if decl.null {
         return Ok(ReceiverState { decl, objects });
     }
-    if t.structs() > 4294967294 {
-        return Err(NoMemory);
-    }
-    add_object(alloc, t, decl.of.0, t.structs() + 1, &mut objects)?;
+    add_objects(alloc, t, sizes, decl.of.0, &mut objects)?;
     Ok(ReceiverState { decl, objects })
 }
 
@@ -214,9 +212,10 @@ pub(crate) fn new_receivers(
     ensures fresh { IfOk result (λ all. receivers_seen (package_of t.now) all.items ≡ fresh_state (package_of t.now) (map receiver_of declared.now)) }
     ensures kept { IfOk result (λ all. ReceiversKeepAll t.now all.items) }
 {
+    let sizes = struct_sizes(alloc, t)?;
     let mut all = Vec::new(alloc);
     for i in 0..declared.len() {
-        let receiver = new_receiver(alloc, t, declared[i])?;
+        let receiver = new_receiver(alloc, t, &sizes, declared[i])?;
         all.push(receiver)?;
     }
     Ok(all)

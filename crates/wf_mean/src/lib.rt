@@ -9,5 +9,6 @@ mod fresh;
 pub mod laws;
 mod machine;
 mod receivers;
+mod sizes;
 
 pub use engine::SourceEngine;

@@ -41,7 +41,7 @@ use Rattle.wf_tool.proofs.VerdictLaws.{verdicts_exclude}
 use Rattle.wf_tool.proofs.WholeVerdicts.{verdicts_exist}
 
 -- Names that are told hold these files and no others.
-told-once : (held : List ℕ → Option (List ℕ)) (names files others : List (List ℕ)) → AreTold held names files → AreHeld held names others → others ≡ files
+pub told-once : (held : List ℕ → Option (List ℕ)) (names files others : List (List ℕ)) → AreTold held names files → AreHeld held names others → others ≡ files
 told-once held [] [] [] t h = refl
 told-once held [] [] (bytes ∷ others) t h = absurd h
 told-once held [] (bytes ∷ files) others t h = absurd t
@@ -218,7 +218,7 @@ answers-are-verdicts asked command files before now old new ending named told h 
     let A : Option Command → Type 0 = λ it. AskedFor asked.seen asked.held asked.failed it ending written.0 in
     by-command asked.seen asked.held asked.failed command files old new ending written.0 told written.3 (subst A named written.1.0) written.2
 
-told-held : (held : List ℕ → Option (List ℕ)) (names files : List (List ℕ)) → AreTold held names files → AreHeld held names files
+pub told-held : (held : List ℕ → Option (List ℕ)) (names files : List (List ℕ)) → AreTold held names files → AreHeld held names files
 told-held held [] [] t = tt
 told-held held [] (bytes ∷ files) t = absurd t
 told-held held (name ∷ names) [] t = absurd t

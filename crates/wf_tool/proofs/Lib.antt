@@ -4,6 +4,7 @@ pub mod EndedRuns
 pub mod FaultLines
 pub mod JudgingLemmas
 pub mod OrderLemmas
+pub mod OwnTexts
 pub mod RefusalFiles
 pub mod RunLemmas
 pub mod ScriptEnds

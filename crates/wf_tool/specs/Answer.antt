@@ -4,7 +4,12 @@ use Rattle.std.specs.Io.KnownBytes.{Appends, Keeps}
 use Rattle.pens.specs.Pens.{KeepsLongest}
 use Rattle.wf_text.specs.declared.rules.Refusal.{Refusal}
 use Rattle.wf_ast.specs.TypedPackage.{PackageTree, surface_of}
+use Rattle.wf_text.specs.Surface.{Surface}
+use Rattle.c_text.specs.CGrammar.{IsTextOf, unit_tokens}
 use Rattle.c_text.specs.CLayout.{text_of}
+use Rattle.c_text.specs.CTree.{ItemTree}
+use Rattle.c_read_grammar.specs.Outcomes.{IsShallow}
+use Rattle.c_meaning.specs.UnitForm.{HasUnitForm}
 use Rattle.c_step.specs.Loading.{SeenOf}
 use Rattle.wf_lower.specs.Unit.{lowered_unit}
 use Rattle.wf_script_rules.specs.Report.{Report}
@@ -59,6 +64,13 @@ pub record CallsForUnit (held : List ℕ → Option (List ℕ)) (asked : Package
   pub hold : AreHeld held asked.files files
   pub accepted : IsAcceptedAs asked.package_name files tree
   pub writes : text ≡ text_of (lowered_unit tree)
+
+-- The text is one of the C subset, of these items, which have the unit form for this surface; and it never opens a bracket where 512
+-- are open.
+pub record IsUnitText (surface : Surface) (items : List ItemTree) (text : List ℕ) : Type 0 where
+  pub spelt : IsTextOf text items
+  pub form : HasUnitForm surface items
+  pub shallow : IsShallow 0 (unit_tokens items)
 
 -- This input failed: a file, after those before it were taken, within `most` bytes together, or one of the others, which come after
 -- all files.
@@ -248,6 +260,22 @@ KeepsPieces (Some (run asked script)) ending old new = KeepsWholePieces ending o
 KeepsPieces (Some (mean asked script)) ending old new = KeepsWholePieces ending old new
 KeepsPieces (Some (exec asked script other)) ending old new = KeepsWholePieces ending old new
 KeepsPieces command ending old new = ⊤
+
+-- The sink, where it tells, has gained a text that `gen` calls for, and this is a unit's text for the package's surface.
+pub record WritesUnitText (held : List ℕ → Option (List ℕ)) (asked : PackageWords) (old new : Option (List ℕ)) : Type 0 where
+  pub text : List ℕ
+  pub called : CallsForUnit held asked text
+  pub lawful : IsUnitText (surface_of called.tree) (lowered_unit called.tree) text
+  pub wrote : Appends old new text
+
+-- So it is with each C text that `gen` writes to its end.
+abbrev pub GenWrites : (held : List ℕ → Option (List ℕ)) → PackageWords → Ending → (old new : Option (List ℕ)) → Type 0
+GenWrites held asked Done old new = WritesUnitText held asked old new
+GenWrites held asked ending old new = ⊤
+
+abbrev pub WritesLawfully : (held : List ℕ → Option (List ℕ)) → Option Command → Ending → (old new : Option (List ℕ)) → Type 0
+WritesLawfully held (Some (gen asked)) ending old new = GenWrites held asked ending old new
+WritesLawfully held command ending old new = ⊤
 
 -- The inputs tell what each of the names holds.
 abbrev pub AreTold : (held : List ℕ → Option (List ℕ)) → (names files : List (List ℕ)) → Type 0

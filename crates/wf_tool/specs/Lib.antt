@@ -1,5 +1,6 @@
 pub mod Answer
 pub mod Lines
+pub mod OwnTexts
 pub mod Runs
 pub mod Sizes
 pub mod Soundness

@@ -171,12 +171,13 @@ pub record AcceptsHeldAs (held : List ℕ → Option (List ℕ)) (asked : Packag
   pub spelt : IsSpelt a.nodes
   pub lowered : IsLowered (package_of a.nodes)
 
--- It is accepted, and this is the unit of its C text.
+-- It is accepted, and this is the unit of its C text, which has the unit form and can be read back.
 pub record LowersHeld (held : List ℕ → Option (List ℕ)) (asked : PackageWords) (u : Nodes) : Type 0 where
   pub files : List (List ℕ)
   pub tree : PackageTree
   pub hold : AreHeld held asked.files files
   pub accepted : IsAcceptedAs asked.package_name files tree
+  pub formed : IsLowered tree
   pub lowered : unit_tree u ≡ lowered_unit tree
 
 -- The package is accepted with so many methods, for bytes that its files hold, and it is never stuck.

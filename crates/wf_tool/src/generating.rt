@@ -1,6 +1,9 @@
 // The C text of a package that is accepted: its unit, and its writing.
 
 ghost use Rattle.std.specs.Prelude.{◌≡◌, true, ◌-◌, ◌^◌, ◌<◌, IfErr};
+ghost use Rattle.c_text.specs.CGrammar.{IsTextOf};
+ghost use Rattle.c_text.specs.CLayout.{text_of};
+ghost use Rattle.c_text.specs.CNodes.{unit_tree};
 ghost use Rattle.wf_tool.specs.Answer.{CountsSink, KeepsWholePieces, Writes};
 ghost use Rattle.wf_tool.specs.Taken.{CountsTaking, LowersPackage, NamesFailed};
 ghost use Rattle.wf_tool.specs.Told.{IsTextOfUnit};
@@ -11,7 +14,7 @@ use crate::ending::Ending;
 use crate::judging::accept_package;
 use crate::taking::TakingFault;
 use crate::words::PackageWords;
-use c_text::{Unit, print};
+use c_text::{Unit, print, printed_is_a_text};
 use std::alloc::Global;
 use wf_lower::lower;
 use wf_outside::{Inputs, Sink};
@@ -38,9 +41,11 @@ pub(crate) fn lower_package<I: Inputs>(
 pub(crate) fn write_unit<O: Sink>(u: &Unit, out: &mut O) -> Ending
     requires { O.faults out.old < 2 ^ 64 - 1 }
     ensures written { Writes (IsTextOfUnit u.now) (O.written out.old) (O.written out.new) (O.room out.old) result }
+    ensures spelt { IsTextOf (text_of (unit_tree u.now)) (unit_tree u.now) }
     ensures pieces { KeepsWholePieces result (O.longest out.old) (O.longest out.new) }
     ensures sink { CountsSink (O.faults out.old) (O.faults out.new) result }
 {
+    printed_is_a_text(u);
     match print(u, out) {
         Ok(()) => Ending::Done,
         Err(_) => Ending::OutputFault,

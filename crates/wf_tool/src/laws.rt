@@ -1,6 +1,7 @@
 // The laws of the verdict. Each is the contract of a function that does nothing.
 
 ghost use Rattle.wf_tool.specs.Answer.{AnswersAreVerdicts, AnswersExist};
+ghost use Rattle.wf_tool.specs.OwnTexts.{OwnTextsRunAsPackages, UnitTextsRunAlike};
 ghost use Rattle.wf_tool.specs.Soundness.{AcceptedAreNeverStuck};
 ghost use Rattle.wf_tool.specs.Verdict.{RefusalsHaveFiles, VerdictsExclude, VerdictsExist};
 
@@ -40,4 +41,12 @@ pub fn an_answer_is_the_verdict()
 /// they name. By the source of an accepted package a script never comes to a reply that isn't defined.
 pub fn an_answer_exists()
     ensures { AnswersExist }
+{}
+
+/// A C text that `gen` writes to its end (clause `lawful` of `wuffs_tool`), of at most 1,048,576 bytes, is read back to the very tree of
+/// which it is the text. So `exec` over it never refuses it, and a script calls for the same ending and the same report over it as `run`
+/// over the package, with its methods and structs in the order of that text: whatever `exec` calls for, `run` does.
+pub fn a_text_runs_as_its_package()
+    ensures texts { UnitTextsRunAlike }
+    ensures packages { OwnTextsRunAsPackages }
 {}

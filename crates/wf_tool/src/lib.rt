@@ -15,7 +15,7 @@ mod words;
 
 pub use ending::Ending;
 pub use laws::{
-    a_refusal_has_its_file, a_verdict_exists, an_answer_exists, an_answer_is_the_verdict,
-    one_verdict,
+    a_refusal_has_its_file, a_text_runs_as_its_package, a_verdict_exists, an_answer_exists,
+    an_answer_is_the_verdict, one_verdict,
 };
 pub use tool::wuffs_tool;

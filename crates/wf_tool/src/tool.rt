@@ -8,7 +8,7 @@ ghost use Rattle.wf_lower.specs.Made.{IsSpelt};
 ghost use Rattle.wf_tool_runs.specs.Lowered.{IsLowered, lowered_report};
 ghost use Rattle.wf_tool_runs.specs.Runs.{CountsRun};
 ghost use Rattle.wf_tool_runs.specs.Sources.{engine_report};
-ghost use Rattle.wf_tool.specs.Answer.{Called, CountsInputs, CountsSink, IsAnswered, KeepsPieces, KeepsWholePieces, Writes};
+ghost use Rattle.wf_tool.specs.Answer.{Called, CountsInputs, CountsSink, GenWrites, IsAnswered, KeepsPieces, KeepsWholePieces, Writes, WritesLawfully};
 ghost use Rattle.wf_tool.specs.Runs.{ScriptCallsFor, TextCallsFor};
 ghost use Rattle.wf_tool.specs.Told.{CheckTold, EndsRun, ExecTold, GenTold, IsFaultTold, IsTold, MeanTold, RunTold, TellsText};
 ghost use Rattle.wf_tool.specs.Views.{words_seen};
@@ -69,6 +69,7 @@ pub fn wuffs_tool<I: Inputs, O: Sink, L: Loader>(
           words = map (λ word. string_bytes word) words.now;
         }) (I.faults inputs.old) (I.faults inputs.new))
         (O.written out.old) (O.written out.new) result }
+    ensures lawful { WritesLawfully (I.held inputs.old) (command_of (map (λ word. string_bytes word) words.now)) result (O.written out.old) (O.written out.new) }
     ensures pieces { KeepsPieces (command_of (map (λ word. string_bytes word) words.now)) result (O.longest out.old) (O.longest out.new) }
     ensures inputs { CountsInputs (I.faults inputs.old) (I.faults inputs.new) result }
     ensures sink { CountsSink (O.faults out.old) (O.faults out.new) result }
@@ -171,6 +172,7 @@ fn generate<I: Inputs, O: Sink>(
     requires sink { O.faults out.old < 2 ^ 64 - 1 }
     ensures written { Writes (GenTold (I.held inputs.old) (I.last_failed inputs.new) (words_seen asked.entry) (I.faults inputs.old) (I.faults inputs.new))
         (O.written out.old) (O.written out.new) (O.room out.old) result }
+    ensures lawful { GenWrites (I.held inputs.old) (words_seen asked.entry) result (O.written out.old) (O.written out.new) }
     ensures pieces { KeepsWholePieces result (O.longest out.old) (O.longest out.new) }
     ensures counts { I.faults inputs.old ≤ I.faults inputs.new }
     ensures sink { CountsSink (O.faults out.old) (O.faults out.new) result }
