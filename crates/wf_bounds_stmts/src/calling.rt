@@ -19,27 +19,29 @@ use crate::answers::{check_answer, drop_target};
 use crate::handed::check_arguments;
 use crate::interrupting::interrupt;
 use crate::targets::drop_written;
-use wf_ast::{Expr, ExprId, Thing, Ty, Typed, Var};
+use wf_ast::{Callee, Expr, ExprId, Thing, Ty, Typed, Var};
 use wf_base::Mark;
 use wf_facts::Facts;
 use wf_text::{Place, Refusal};
 
-/// A call of a method: the place of the method's name, where its answer goes, whether it is `=?`, its mark, and what it
-/// hands over, in declared order.
+/// A call as its statement has it: the place of the method's name, where its answer goes, whether it is `=?`, what it calls,
+/// and what it hands over, in declared order.
 #[derive(Clone, Copy)]
 pub(crate) struct Call<'a> {
     pub at: Place,
     pub target: Option<ExprId>,
     pub keep: bool,
-    pub mark: Mark,
+    pub callee: Callee,
     pub args: &'a [ExprId],
 }
 
-/// The rule of a call: its arguments in the types that the method takes, what it may change, and its answer.
+/// The rule of a call of a method with this mark: its arguments in the types that the method takes, what it may change, and
+/// its answer.
 pub(crate) fn invoke(
     t: &Typed,
     facts: &mut Facts,
     call: Call<'_>,
+    mark: Mark,
     taken: &[Var],
     answers: Ty,
 ) -> Result<(), Refusal>
@@ -49,11 +51,11 @@ pub(crate) fn invoke(
     requires few { MayBeDropped (written_by (optional_target (tree_of t.now) call.target)) }
     requires over { IsOver t.now facts.old }
     ensures over { IsOver t.now facts.new }
-    ensures settles { Settles t.now (or_else (all_handed B8 (known_to_call call.entry.keep call.entry.mark (claims_in t.now facts.old.list)) (handed_to (map (λ x. x.ty) taken.now) (map (tree_of t.now) call.entry.args.now))) (answer_refusal (left_by_call call.entry.keep call.entry.mark (map (tree_of t.now) call.entry.args.now) (claims_in t.now facts.old.list)) call.entry.at (optional_target (tree_of t.now) call.entry.target) (number_type answers))) (invoked (claims_in t.now facts.old.list) (optional_target (tree_of t.now) call.entry.target) call.entry.keep call.entry.mark (map (tree_of t.now) call.entry.args.now)) result facts.new }
+    ensures settles { Settles t.now (or_else (all_handed B8 (known_to_call call.entry.keep mark (claims_in t.now facts.old.list)) (handed_to (map (λ x. x.ty) taken.now) (map (tree_of t.now) call.entry.args.now))) (answer_refusal (left_by_call call.entry.keep mark (map (tree_of t.now) call.entry.args.now) (claims_in t.now facts.old.list)) call.entry.at (optional_target (tree_of t.now) call.entry.target) (number_type answers))) (invoked (claims_in t.now facts.old.list) (optional_target (tree_of t.now) call.entry.target) call.entry.keep mark (map (tree_of t.now) call.entry.args.now)) result facts.new }
 {
-    enter_call(t, facts, call.keep, call.mark);
+    enter_call(t, facts, call.keep, mark);
     check_arguments(t, facts.as_slice(), taken, call.args)?;
-    leave_call(t, facts, call.keep, call.mark, call.args);
+    leave_call(t, facts, call.keep, mark, call.args);
     check_answer(t, facts.as_slice(), call.at, call.target, answers)?;
     drop_target(t, facts, call.target);
     Ok(())

@@ -15,69 +15,47 @@ ghost use Rattle.wf_bounds_stmts.specs.Passing.{fits_callee, KeepsTypes, TakesAr
 
 use crate::base_calls::call_base;
 use crate::calling::{Call, invoke};
-use wf_ast::{Callee, ExprId, MethodId, Ty, Typed};
+use wf_ast::{Callee, MethodId, Ty, Typed};
 use wf_facts::Facts;
-use wf_text::{Place, Refusal};
+use wf_text::Refusal;
 
-/// The rule of a call: `at` is the place of the method's name, and `keep` tells `=?`.
-pub(crate) fn call(
-    t: &Typed,
-    facts: &mut Facts,
-    at: Place,
-    target: Option<ExprId>,
-    keep: bool,
-    callee: Callee,
-    args: &[ExprId],
-) -> Result<(), Refusal>
+/// The rule of a call.
+pub(crate) fn call(t: &Typed, facts: &mut Facts, call: Call<'_>) -> Result<(), Refusal>
     requires typed { IsTyped t.now }
-    requires target { IsTrue (is_optional_expr t.now target) }
-    requires callee { IsTrue (callee_exists t.now callee) }
-    requires there { IsTrue (list_all (is_expr t.now) args.now) }
-    requires receiver { fits_callee t.now callee ≡ true }
-    requires well { KeepsTypes t.now (call_made t.now (tree_of t.now) at (optional_target (tree_of t.now) target) keep callee (map (tree_of t.now) args.now)) }
-    requires few { MayBeDropped (written_by (optional_target (tree_of t.now) target)) }
+    requires target { IsTrue (is_optional_expr t.now call.target) }
+    requires callee { IsTrue (callee_exists t.now call.callee) }
+    requires there { IsTrue (list_all (is_expr t.now) call.args.now) }
+    requires receiver { fits_callee t.now call.callee ≡ true }
+    requires well { KeepsTypes t.now (call_made t.now (tree_of t.now) call.at (optional_target (tree_of t.now) call.target) call.keep call.callee (map (tree_of t.now) call.args.now)) }
+    requires few { MayBeDropped (written_by (optional_target (tree_of t.now) call.target)) }
     requires over { IsOver t.now facts.old }
     ensures over { IsOver t.now facts.new }
-    ensures leaves { Leaves t.now (claims_in t.now facts.old.list) (call_made t.now (tree_of t.now) at (optional_target (tree_of t.now) target) keep callee (map (tree_of t.now) args.now)) result facts.new }
+    ensures leaves { Leaves t.now (claims_in t.now facts.old.list) (call_made t.now (tree_of t.now) call.entry.at (optional_target (tree_of t.now) call.entry.target) call.entry.keep call.entry.callee (map (tree_of t.now) call.entry.args.now)) result facts.new }
 {
-    match callee {
-        Callee::Own(m) => call_method(t, facts, at, target, keep, m, args),
-        Callee::Sub { method, .. } => call_method(t, facts, at, target, keep, method, args),
-        Callee::Base { on, sig } => call_base(t, facts, at, target, on, sig, args),
+    match call.callee {
+        Callee::Own(m) => call_method(t, facts, call, m),
+        Callee::Sub { method, .. } => call_method(t, facts, call, method),
+        Callee::Base { on, sig } => call_base(t, facts, call, on, sig),
     }
 }
 
-// A call of a method of the package.
-fn call_method(
-    t: &Typed,
-    facts: &mut Facts,
-    at: Place,
-    target: Option<ExprId>,
-    keep: bool,
-    m: MethodId,
-    args: &[ExprId],
-) -> Result<(), Refusal>
+// A call of the method `m` of the package.
+fn call_method(t: &Typed, facts: &mut Facts, call: Call<'_>, m: MethodId) -> Result<(), Refusal>
     requires method { m.0 < length t.now.methods }
-    requires target { IsTrue (is_optional_expr t.now target) }
-    requires there { IsTrue (list_all (is_expr t.now) args.now) }
-    requires all { TakesArgs t.now m (length args.now) }
-    requires few { MayBeDropped (written_by (optional_target (tree_of t.now) target)) }
+    requires target { IsTrue (is_optional_expr t.now call.target) }
+    requires there { IsTrue (list_all (is_expr t.now) call.args.now) }
+    requires all { TakesArgs t.now m (length call.args.now) }
+    requires few { MayBeDropped (written_by (optional_target (tree_of t.now) call.target)) }
     requires over { IsOver t.now facts.old }
     ensures over { IsOver t.now facts.new }
-    ensures leaves { (called : Called) → number_of called ≡ m.0 → length t.now.bodies ≡ length t.now.methods → Leaves t.now (claims_in t.now facts.old.list) (invoke_tree at (optional_target (tree_of t.now) target) keep (mark_of t.now m.0) called (map (tree_of t.now) args.now)) result facts.new }
+    ensures leaves { (called : Called) → number_of called ≡ m.0 → length t.now.bodies ≡ length t.now.methods → Leaves t.now (claims_in t.now facts.old.list) (invoke_tree call.entry.at (optional_target (tree_of t.now) call.entry.target) call.entry.keep (mark_of t.now m.0) called (map (tree_of t.now) call.entry.args.now)) result facts.new }
 {
     let method = t.method(m);
-    let call = Call {
-        at,
-        target,
-        keep,
-        mark: method.mark,
-        args,
-    };
     invoke(
         t,
         facts,
         call,
+        method.mark,
         method.args.as_slice(),
         answered(method.gives),
     )

@@ -29,28 +29,34 @@ use wf_facts::Facts;
 use wf_facts_exprs::{Cmp, Fact, Side, gives_sides};
 use wf_text::{Place, Refusal, Rule};
 
-/// The rule of a skip that doesn't suspend: it takes `actual` bytes, and needs `worst_case`. `at` is the place of its name.
+/// A skip that doesn't suspend: the reader, how many bytes it takes, and how many it needs.
+#[derive(Clone, Copy)]
+pub(crate) struct FastSkip {
+    pub on: ExprId,
+    pub actual: ExprId,
+    pub worst_case: ExprId,
+}
+
+/// The rule of a skip that doesn't suspend. `at` is the place of its name.
 pub(crate) fn skip_fast(
     t: &Typed,
     facts: &mut Facts,
     at: Place,
     target: Option<ExprId>,
-    on: ExprId,
-    actual: ExprId,
-    worst_case: ExprId,
+    skip: FastSkip,
 ) -> Result<(), Refusal>
     requires target { IsTrue (is_optional_expr t.now target) }
-    requires on_there { IsTrue (is_expr t.now on) }
-    requires on { type_of_node t.now on.0 ≡ types.Reader }
-    requires actual { is_number_at t.now actual ≡ true }
-    requires worst_case { is_number_at t.now worst_case ≡ true }
+    requires on_there { IsTrue (is_expr t.now skip.on) }
+    requires on { type_of_node t.now skip.on.0 ≡ types.Reader }
+    requires actual { is_number_at t.now skip.actual ≡ true }
+    requires worst_case { is_number_at t.now skip.worst_case ≡ true }
     requires few { MayBeDropped (written_by (optional_target (tree_of t.now) target)) }
     requires over { IsOver t.now facts.old }
     ensures over { IsOver t.now facts.new }
-    ensures settles { Settles t.now (perform_refusal (claims_in t.now facts.old.list) at (optional_target (tree_of t.now) target) (skip_tree (io_in (tree_of t.now on)) (node_number t.now actual) (node_number t.now worst_case))) (performed (claims_in t.now facts.old.list) (optional_target (tree_of t.now) target) (skip_tree (io_in (tree_of t.now on)) (node_number t.now actual) (node_number t.now worst_case))) result facts.new }
+    ensures settles { Settles t.now (perform_refusal (claims_in t.now facts.old.list) at (optional_target (tree_of t.now) target) (skip_tree (io_in (tree_of t.now skip.on)) (node_number t.now skip.actual) (node_number t.now skip.worst_case))) (performed (claims_in t.now facts.old.list) (optional_target (tree_of t.now) target) (skip_tree (io_in (tree_of t.now skip.on)) (node_number t.now skip.actual) (node_number t.now skip.worst_case))) result facts.new }
 {
-    check_skip(t, facts.as_slice(), at, on, actual, worst_case)?;
-    facts.lower_length(t, io_of(t, on), number(t, worst_case));
+    check_skip(t, facts.as_slice(), at, skip)?;
+    facts.lower_length(t, io_of(t, skip.on), number(t, skip.worst_case));
     take_answer(t, facts, at, target)
 }
 
@@ -78,21 +84,19 @@ pub(crate) fn write_fast(
 }
 
 // What a skip is handed, and then its two premises.
-fn check_skip(
-    t: &Typed,
-    facts: &[Fact],
-    at: Place,
-    on: ExprId,
-    actual: ExprId,
-    worst_case: ExprId,
-) -> Result<(), Refusal>
+fn check_skip(t: &Typed, facts: &[Fact], at: Place, skip: FastSkip) -> Result<(), Refusal>
     requires known { AreFacts t.now facts.now }
-    requires on_there { IsTrue (is_expr t.now on) }
-    requires on { type_of_node t.now on.0 ≡ types.Reader }
-    requires actual { is_number_at t.now actual ≡ true }
-    requires worst_case { is_number_at t.now worst_case ≡ true }
-    ensures { result ≡ unless_refused (or_else (all_handed B8 (claims_in t.now facts.now) (handed_to_written (skip_tree (io_in (tree_of t.now on)) (node_number t.now actual) (node_number t.now worst_case)))) (premise_refusal (claims_in t.now facts.now) at (skip_tree (io_in (tree_of t.now on)) (node_number t.now actual) (node_number t.now worst_case)))) tt }
+    requires on_there { IsTrue (is_expr t.now skip.on) }
+    requires on { type_of_node t.now skip.on.0 ≡ types.Reader }
+    requires actual { is_number_at t.now skip.actual ≡ true }
+    requires worst_case { is_number_at t.now skip.worst_case ≡ true }
+    ensures { result ≡ unless_refused (or_else (all_handed B8 (claims_in t.now facts.now) (handed_to_written (skip_tree (io_in (tree_of t.now skip.on)) (node_number t.now skip.actual) (node_number t.now skip.worst_case)))) (premise_refusal (claims_in t.now facts.now) at (skip_tree (io_in (tree_of t.now skip.on)) (node_number t.now skip.actual) (node_number t.now skip.worst_case)))) tt }
 {
+    let FastSkip {
+        on,
+        actual,
+        worst_case,
+    } = skip;
     look_at(t, on);
     look_at(t, actual);
     look_at(t, worst_case);

@@ -16,6 +16,7 @@ ghost use Rattle.wf_bounds_stmts.specs.Targets.{assign_refusal, assigned, writte
 
 use crate::asserting::assert;
 use crate::assigning::assign;
+use crate::calling::Call;
 use crate::calls::call;
 use crate::interrupting::interrupt;
 use crate::returning::check_returned;
@@ -53,7 +54,14 @@ pub fn pass(t: &Typed, m: MethodId, facts: &mut Facts, s: StmtId) -> Result<bool
             args,
         } => {
             let name_at = t.inner_place(s);
-            let answer = call(t, facts, name_at, *target, *keep, *callee, args.as_slice());
+            let it = Call {
+                at: name_at,
+                target: *target,
+                keep: *keep,
+                callee: *callee,
+                args: args.as_slice(),
+            };
+            let answer = call(t, facts, it);
             after(facts, answer)
         }
         Stmt::Break(w) => leaves(at_break(facts, t, *w, at)),

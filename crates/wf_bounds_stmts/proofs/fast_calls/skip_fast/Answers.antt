@@ -22,7 +22,7 @@ returns-in_err-check_skip-clause-settles c =
     let r = err_from_is_err_and c.from_residual.result c.from_residual.ensures.1 in
     let t = c.args.t.now in
     let fs = claims_in t c.args.facts.now.list in
-    let call = skip_fast (io_in (tree_of t c.args.on)) (node_number t c.args.actual) (node_number t c.args.worst_case) in
+    let call = skip_fast (io_in (tree_of t c.args.skip.on)) (node_number t c.args.skip.actual) (node_number t c.args.skip.worst_case) in
     let p = all_handed B8 fs (handed_to_written call) in
     let q = premise_refusal fs c.args.at call in
     let d = answer_refusal (left_by_written call fs) c.args.at (optional_target (tree_of t) c.args.target) None in
@@ -32,14 +32,14 @@ pub returns-clause-settles : goal.returns-clause-settles
 returns-clause-settles c =
     let t = c.args.t.now in
     let fs = claims_in t c.args.facts.now.list in
-    let call = skip_fast (io_in (tree_of t c.args.on)) (node_number t c.args.actual) (node_number t c.args.worst_case) in
+    let call = skip_fast (io_in (tree_of t c.args.skip.on)) (node_number t c.args.skip.actual) (node_number t c.args.skip.worst_case) in
     let target = optional_target (tree_of t) c.args.target in
     let p = all_handed B8 fs (handed_to_written call) in
     let q = premise_refusal fs c.args.at call in
     let fine : or_else p q ≡ None = is-fine (or_else p q) (rw c.as_slice.ensures at (sym c.check_skip.ensures ∙ c.in_ok-check_skip.was)) in
     let list : claims_in t c.lower_length.new.self.list ≡ left_by_written call fs =
     c.lower_length.ensures.claims ∙ ap (λ n. changed (things.Arg (record { 0 = n })) (Shortened c.number.result) fs) c.io_of.ensures
-    ∙ ap (λ k. changed (things.Arg (record { 0 = io_in (tree_of t c.args.on) })) (Shortened k) fs) c.number.ensures in
+    ∙ ap (λ k. changed (things.Arg (record { 0 = io_in (tree_of t c.args.skip.on) })) (Shortened k) fs) c.number.ensures in
     let P : List Claim → Type 0 = λ gs. Settles t (answer_refusal gs c.args.at target None) (unwritten target gs) c.take_answer.result c.take_answer.new.facts in
     answered-after t p q (answer_refusal (left_by_written call fs) c.args.at target None) (unwritten target (left_by_written call fs)) c.take_answer.result c.take_answer.new.facts fine
     (subst P list c.take_answer.ensures.settles)
