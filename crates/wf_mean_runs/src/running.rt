@@ -29,6 +29,7 @@ use wf_mean_exprs::objects::{Frame, Progress};
 use wf_mean_flows::flows::Flow;
 use wf_mean_flows::looping::{Round, Turned, close_round, enter_loop};
 use wf_mean_flows::simple::{assign, claim, give_back, pause};
+use wf_mean_stmts::base_calls::BaseCall;
 use wf_mean_stmts::stage::Stage;
 use wf_text::MethodId;
 
@@ -420,7 +421,15 @@ fn run_call(
     ensures stays { Stays below.old below.new stage.old stage.new }
 {
     match call.callee {
-        Callee::Base { on, sig } => run_base(t, stage, s, call.target, on, sig, call.args, done),
+        Callee::Base { on, sig } => {
+            let base = BaseCall {
+                target: call.target,
+                on,
+                sig,
+                args: call.args,
+            };
+            run_base(t, stage, s, base, done)
+        }
         Callee::Own(m) => run_invoke(t, stage, below, s, call, m),
         Callee::Sub { method, .. } => run_invoke(t, stage, below, s, call, method),
     }
@@ -453,7 +462,7 @@ fn run_invoke(
     match receiver(stage, call.callee) {
         Some(object) => {
             let ran = run_through(t, stage, below, call.callee, m, object);
-            close_call(t, stage, s, call.target, call.keep, t.method(m).mark, ran)
+            close_call(t, stage, s, call, t.method(m).mark, ran)
         }
         None => Flow::Stuck,
     }
