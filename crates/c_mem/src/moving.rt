@@ -81,36 +81,39 @@ fn are_set(cells: &[Cell], at: usize, count: usize) -> bool
     cells[at..at + count].iter().all(|cell| is_set_cell(cell))
 }
 
-/// How many cells so many bytes are that may come from `source` to `target`; None where `memmove` isn't defined.
-fn count_cells(
+/// A place among cells of one type, where bytes are moved from or to.
+#[derive(Clone, Copy)]
+struct CellPlace<'a> {
+    /// The type of each cell.
     ty: CellType,
-    target: &[Cell],
-    to: u64,
-    from_ty: CellType,
-    source: &[Cell],
-    from: u64,
-    bytes: u64,
-) -> Option<u64>
-    ensures { result ≡ counted ty target.now to from_ty source.now from bytes }
+    /// The cells.
+    cells: &'a [Cell],
+    /// The index of the first cell that is moved.
+    at: u64,
+}
+
+/// How many cells so many bytes are that may come from `source` to `target`; None where `memmove` isn't defined.
+fn count_cells(target: CellPlace<'_>, source: CellPlace<'_>, bytes: u64) -> Option<u64>
+    ensures { result ≡ counted target.entry.ty target.entry.cells.now target.entry.at source.entry.ty source.entry.cells.now source.entry.at bytes }
 {
     if bytes == 0 {
-        return if to <= target.len() as u64 && from <= source.len() as u64 {
+        return if target.at <= target.cells.len() as u64 && source.at <= source.cells.len() as u64 {
             Some(0)
         } else {
             None
         };
     }
-    let count = cells_in(from_ty, bytes)?;
-    if !is_same_type(ty, from_ty) {
+    let count = cells_in(source.ty, bytes)?;
+    if !is_same_type(target.ty, source.ty) {
         return None;
     }
-    if !are_within(from, count, source.len() as u64) {
+    if !are_within(source.at, count, source.cells.len() as u64) {
         return None;
     }
-    if !are_within(to, count, target.len() as u64) {
+    if !are_within(target.at, count, target.cells.len() as u64) {
         return None;
     }
-    if are_set(source, from as usize, count as usize) {
+    if are_set(source.cells, source.at as usize, count as usize) {
         Some(count)
     } else {
         None
@@ -183,15 +186,19 @@ impl Field {
     {
         match &self.held {
             Held::Cells(ty, target) => match &source.held {
-                Held::Cells(from_ty, cells) => count_cells(
-                    *ty,
-                    target.as_slice(),
-                    to,
-                    *from_ty,
-                    cells.as_slice(),
-                    from,
-                    bytes,
-                ),
+                Held::Cells(from_ty, cells) => {
+                    let target = CellPlace {
+                        ty: *ty,
+                        cells: target.as_slice(),
+                        at: to,
+                    };
+                    let source = CellPlace {
+                        ty: *from_ty,
+                        cells: cells.as_slice(),
+                        at: from,
+                    };
+                    count_cells(target, source, bytes)
+                }
                 Held::Bytes(them, _) => count_none(
                     target.len() as u64,
                     to,
