@@ -110,7 +110,7 @@ impl Machine {
 
     /// How many parameters and locals at most the functions of one chain of calls have together, of the chains that begin at
     /// an external function of the text.
-    pub(crate) fn frame_cells(&self) -> u64
+    pub fn frame_cells(&self) -> u64
         ensures { result ≡ program_cells (program_of (unit_tree self.now.nodes)) }
     {
         self.known.cells
