@@ -10,10 +10,11 @@ ghost use Rattle.wf_names_rules.specs.Jumps.{block_jumps, jumped};
 ghost use Rattle.wf_names_rules.specs.Judged.{walked};
 ghost use Rattle.wf_names_rules.specs.Called.{with_calls};
 
+use crate::written::WrittenMethod;
 use graphs::rows::Row;
 use std::alloc::Global;
 use wf_ast::ExprId;
-use wf_ast::parsed::{Block, Field, Name, TypeExpr};
+use wf_ast::parsed::{Block, Field, TypeExpr};
 use wf_names_rules::here::Here;
 use wf_names_rules::seen::{Gathered, Seen};
 use wf_names_rules::walk_exprs::{walk_expr, walk_struct, walk_type};
@@ -90,15 +91,6 @@ fn walk_inside(
 {
     walk_result(alloc, seen, &mut gathered.row, here, gives)?;
     walk_block(alloc, seen, gathered, here, body)
-}
-
-/// What a method's declaration says of what it uses: the struct that it is a method of, its arguments, its result and its body.
-#[derive(Clone, Copy)]
-pub struct WrittenMethod<'a> {
-    pub owner: Name,
-    pub args: &'a [Field],
-    pub gives: &'a Option<TypeExpr>,
-    pub body: &'a Block,
 }
 
 /// A walk past a method: its owner, its arguments, what it gives, and its body.

@@ -9,3 +9,4 @@ pub mod scopes;
 pub mod tables;
 pub mod uses;
 pub mod variables;
+pub mod written;

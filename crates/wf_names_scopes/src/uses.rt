@@ -15,8 +15,9 @@ ghost use Rattle.wf_names_scopes.specs.CallRows.{AreRows, AreRowsInFront};
 ghost use Rattle.wf_names_scopes.specs.Growing.{scope_in, AreNext};
 ghost use Rattle.wf_names_scopes.specs.UsesFound.{sites_judged, names_found};
 
-use crate::declared_uses::{WrittenMethod, walk_constant, walk_fields, walk_method};
+use crate::declared_uses::{walk_constant, walk_fields, walk_method};
 use crate::scopes::{enter_method, enter_struct, outside, pass_constant};
+use crate::written::{WrittenConst, WrittenMethod};
 use graphs::rows::Row;
 use std::alloc::Global;
 use wf_ast::parsed::{Decl, DeclNode, Field, Name, TypeExpr};
@@ -32,14 +33,6 @@ use wf_text::found::Found;
 struct Whole<'a> {
     parsed: &'a PackageNodes,
     tables: &'a Tables,
-}
-
-// What a constant's declaration says.
-#[derive(Clone, Copy)]
-struct WrittenConst<'a> {
-    name: Name,
-    of: &'a TypeExpr,
-    value: ExprId,
 }
 
 // What the methods before the next one come to: the first refusal of what was found before and of their loops and jumps, and
@@ -274,13 +267,17 @@ fn method_decl(
     match &node.decl {
         Decl::Method {
             of,
+            name,
+            mark,
             args,
             gives,
             body,
-            ..
         } => {
             let method = WrittenMethod {
+                public: node.public,
                 owner: *of,
+                name: *name,
+                mark: *mark,
                 args: args.as_slice(),
                 gives,
                 body,
