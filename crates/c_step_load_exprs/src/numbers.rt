@@ -1,16 +1,17 @@
 // The numbers of what a unit declares, by name: a string is one of the strings of the text in order, a function one of its
-// functions, a field one of its struct's.
+// functions, a field one of its struct's. A name of the unit is looked up by its number; where only its bytes are at hand, a
+// function is looked up by these.
 
-ghost use Rattle.std.specs.Prelude.{◌≡◌, ◌<◌, ◌++◌, ◌∷◌, [], ℕ, List, length, map, position, slice_get, Some, bytes_eq, option_and_then, IfOk, OnOk};
+ghost use Rattle.std.specs.Prelude.{◌≡◌, ◌<◌, ◌++◌, ◌∷◌, [], ℕ, List, length, map, position, slice_get, Some, bytes_eq, option_and_then, IfOk, IfSome, OnOk};
 ghost use Rattle.std.specs.Option.{option_map_or};
 ghost use Rattle.c_text.specs.CTree.{ItemTree};
 ghost use Rattle.c_text.specs.CNodes.{bytes_at, field_tree, unit_tree};
-ghost use Rattle.c_text.specs.CFits.{HasFields};
+ghost use Rattle.c_text.specs.CFits.{HasName, HasFields};
 ghost use Rattle.c_meaning.specs.CTypes.{StructDecl, structs_of, texts_of, functions_of, struct_named};
-ghost use Rattle.c_step_load_exprs.specs.Knowing.{HasPlaces, HasStructs, names_of};
+ghost use Rattle.c_step_load_exprs.specs.Knowing.{HasPlaces, HasItems, HasStructs, names_of};
 
-use c_form_exprs::NameTable;
-use c_text::{CField, CItem, CItemId, Unit};
+use c_form_exprs::{NameTable, SpellingTable};
+use c_text::{CField, CItem, CItemId, CNameId, Unit};
 use std::alloc::Global;
 use std::marker::Model;
 use wf_text::NoMemory;
@@ -19,8 +20,8 @@ use wf_text::NoMemory;
 pub struct Numbers<'u> {
     unit: &'u Unit,
     structs: Structs<'u>,
-    texts: NameTable<'u, usize>,
-    functions: NameTable<'u, usize>,
+    texts: ItemNumbers<'u>,
+    functions: ItemNumbers<'u>,
 }
 
 impl<'u> Drop for Numbers<'u> {
@@ -42,7 +43,7 @@ impl<'u> Model for Numbers<'u> {
 
     ghost view = { λ n. n.unit.now };
 
-    ghost invariant = { λ n. HasNumbers n.unit.now n.structs.by_name n.structs.fields.items n.texts n.functions };
+    ghost invariant = { λ n. HasNumbers n.unit.now n.structs.by_name n.structs.fields.items (n.texts.by_number, n.texts.by_bytes) (n.functions.by_number, n.functions.by_bytes) };
 }
 
 impl<'u> Numbers<'u> {
@@ -62,22 +63,33 @@ impl<'u> Numbers<'u> {
     }
 
     /// The number of a string among those of the text.
-    pub fn text(&self, name: &[u8]) -> Option<usize>
-        ensures { result ≡ position (λ it. bytes_eq it.name name.now) (texts_of (unit_tree self.now)) }
+    pub fn text(&self, name: CNameId) -> Option<usize>
+        requires { HasName self.now name }
+        ensures { result ≡ position (λ it. bytes_eq it.name (bytes_at self.now.names name.0)) (texts_of (unit_tree self.now)) }
     {
-        self.texts.get(name)
+        self.texts.by_number.get(name)
     }
 
     /// The number of a function: that of the functions before it.
-    pub fn function(&self, name: &[u8]) -> Option<usize>
+    pub fn function(&self, name: CNameId) -> Option<usize>
+        requires { HasName self.now name }
+        ensures { result ≡ position (λ it. bytes_eq it.name (bytes_at self.now.names name.0)) (functions_of (unit_tree self.now)) }
+    {
+        self.functions.by_number.get(name)
+    }
+
+    /// The number of the function whose name has these bytes.
+    pub fn function_spelt(&self, name: &[u8]) -> Option<usize>
         ensures { result ≡ position (λ it. bytes_eq it.name name.now) (functions_of (unit_tree self.now)) }
     {
-        self.functions.get(name)
+        self.functions.by_bytes.get(name)
     }
 
     /// The number of a field among those of its struct.
-    pub fn field(&self, of: &[u8], name: &[u8]) -> Option<usize>
-        ensures { result ≡ option_and_then (λ it. position (λ f. bytes_eq f.name name.now) it.fields) (struct_named (structs_of (unit_tree self.now)) of.now) }
+    pub fn field(&self, of: CNameId, name: CNameId) -> Option<usize>
+        requires of { HasName self.now of }
+        requires name { HasName self.now name }
+        ensures { result ≡ option_and_then (λ it. position (λ f. bytes_eq f.name (bytes_at self.now.names name.0)) it.fields) (struct_named (structs_of (unit_tree self.now)) (bytes_at self.now.names of.0)) }
     {
         let k = self.structs.by_name.get(of)?;
         self.structs.fields[k].get(name)
@@ -94,46 +106,91 @@ pub(crate) enum Kind {
 }
 
 /// The name that an item declares, where the item is of a kind.
-fn declared<'u>(unit: &'u Unit, i: usize, kind: Kind) -> Option<&'u [u8]>
+fn declared(unit: &Unit, i: usize, kind: Kind) -> Option<CNameId>
     requires { i < length unit.now.items }
-    ensures { (item : ItemTree) → slice_get (unit_tree unit.now) i ≡ Some item → names_of kind (item ∷ []) ≡ option_map_or (λ name. name.now ∷ []) result [] }
+    ensures is { (item : ItemTree) → slice_get (unit_tree unit.now) i ≡ Some item → names_of kind (item ∷ []) ≡ option_map_or (λ name. bytes_at unit.now.names name.0 ∷ []) result [] }
+    ensures has { IfSome result (HasName unit.now) }
 {
     match unit.item(CItemId(i)) {
         CItem::Text { name, .. } => match kind {
-            Kind::Text => Some(unit.name(*name)),
+            Kind::Text => Some(*name),
             Kind::Function => None,
         },
         CItem::Function { name, .. } => match kind {
             Kind::Text => None,
-            Kind::Function => Some(unit.name(*name)),
+            Kind::Function => Some(*name),
         },
         CItem::Struct { .. } => None,
     }
 }
 
 /// Gives a name a number, where it has none.
-fn add<'u>(table: &mut NameTable<'u, usize>, name: &'u [u8], number: usize) -> Result<(), NoMemory>
+fn add<'u>(table: &mut NameTable<'u, usize>, name: CNameId, number: usize) -> Result<(), NoMemory>
+    requires { name.0 < length table.old.names }
+    ensures names { OnOk result (table.new.names ≡ table.old.names) }
+    ensures places { (names : List (List ℕ)) → number ≡ length names → HasPlaces table.old.entries names → OnOk result (HasPlaces table.new.entries (names ++ bytes_at table.old.names name.0 ∷ [])) }
+{
+    table.add(name, number)?;
+    Ok(())
+}
+
+/// Gives the bytes of a name a number, where they have none.
+fn spell<'u>(
+    table: &mut SpellingTable<'u, usize>,
+    name: &'u [u8],
+    number: usize,
+) -> Result<(), NoMemory>
     ensures { (names : List (List ℕ)) → number ≡ length names → HasPlaces table.old names → OnOk result (HasPlaces table.new (names ++ name.now ∷ [])) }
 {
     table.add(name, number)?;
     Ok(())
 }
 
+/// The numbers of the items of a kind, by name.
+pub(crate) struct ItemNumbers<'u> {
+    /// By the numbers of the names.
+    pub by_number: NameTable<'u, usize>,
+    /// By the bytes of the names.
+    pub by_bytes: SpellingTable<'u, usize>,
+}
+
+impl<'u> Drop for ItemNumbers<'u> {
+    fn drop(self) {
+        let ItemNumbers {
+            by_number: _,
+            by_bytes: _,
+        } = self;
+    }
+}
+
+impl<'u> ItemNumbers<'u> {
+    /// Gives a name a number, where it has none.
+    fn add(&mut self, unit: &'u Unit, name: CNameId, number: usize) -> Result<(), NoMemory>
+        requires name { HasName unit.now name }
+        requires same { self.old.by_number.names ≡ unit.now.names }
+        ensures { (names : List (List ℕ)) → number ≡ length names → HasItems unit.now self.old.by_number self.old.by_bytes names → OnOk result (HasItems unit.now self.new.by_number self.new.by_bytes (names ++ bytes_at unit.now.names name.0 ∷ [])) }
+    {
+        add(&mut self.by_number, name, number)?;
+        spell(&mut self.by_bytes, unit.name(name), number)
+    }
+}
+
 /// Gives the name that an item declares the next number, where the item is of a kind; how many there are then.
 fn add_item<'u>(
-    table: &mut NameTable<'u, usize>,
+    table: &mut ItemNumbers<'u>,
     unit: &'u Unit,
     i: usize,
     kind: Kind,
     number: usize,
 ) -> Result<usize, NoMemory>
-    requires { i < length unit.now.items }
-    ensures { (names : List (List ℕ)) (item : ItemTree) → slice_get (unit_tree unit.now) i ≡ Some item → number ≡ length names → HasPlaces table.old names → IfOk result (λ next. (next ≡ length (names ++ names_of kind (item ∷ []))) × HasPlaces table.new (names ++ names_of kind (item ∷ []))) }
+    requires within { i < length unit.now.items }
+    requires same { table.old.by_number.names ≡ unit.now.names }
+    ensures { (names : List (List ℕ)) (item : ItemTree) → slice_get (unit_tree unit.now) i ≡ Some item → number ≡ length names → HasItems unit.now table.old.by_number table.old.by_bytes names → IfOk result (λ next. (next ≡ length (names ++ names_of kind (item ∷ []))) × HasItems unit.now table.new.by_number table.new.by_bytes (names ++ names_of kind (item ∷ []))) }
 {
     match declared(unit, i, kind) {
         Some(name) => match number.checked_add(1) {
             Some(next) => {
-                add(table, name, number)?;
+                table.add(unit, name, number)?;
                 Ok(next)
             }
             None => Err(NoMemory),
@@ -142,15 +199,14 @@ fn add_item<'u>(
     }
 }
 
-/// The numbers of the items of a kind, by name.
-fn number_items<'u>(
-    alloc: Global,
-    unit: &'u Unit,
-    kind: Kind,
-) -> Result<NameTable<'u, usize>, NoMemory>
-    ensures { IfOk result (λ table. HasPlaces table (names_of kind (unit_tree unit.now))) }
+/// The numbers of the items of a kind.
+fn number_items<'u>(alloc: Global, unit: &'u Unit, kind: Kind) -> Result<ItemNumbers<'u>, NoMemory>
+    ensures { IfOk result (λ table. HasItems unit.now table.by_number table.by_bytes (names_of kind (unit_tree unit.now))) }
 {
-    let mut table = NameTable::new(alloc);
+    let mut table = ItemNumbers {
+        by_number: NameTable::new(alloc, unit),
+        by_bytes: SpellingTable::new(alloc),
+    };
     let mut number = 0;
     let mut i = 0;
     while i < unit.items() {
@@ -167,12 +223,13 @@ fn number_fields<'u>(
     fields: &'u [CField],
 ) -> Result<NameTable<'u, usize>, NoMemory>
     requires { HasFields unit.now fields.now }
-    ensures { IfOk result (λ table. HasPlaces table (map (λ f. bytes_at unit.now.names f.name.0) fields.now)) }
+    ensures names { IfOk result (λ table. table.names ≡ unit.now.names) }
+    ensures places { IfOk result (λ table. HasPlaces table.entries (map (λ f. bytes_at unit.now.names f.name.0) fields.now)) }
 {
-    let mut table = NameTable::new(alloc);
+    let mut table = NameTable::new(alloc, unit);
     let mut i = 0;
     while i < fields.len() {
-        add(&mut table, unit.name(fields[i].name), i)?;
+        add(&mut table, fields[i].name, i)?;
         i += 1;
     }
     Ok(table)
@@ -198,13 +255,12 @@ impl<'u> Drop for Structs<'u> {
 impl<'u> Structs<'u> {
     /// Adds an item, where it is a struct.
     fn add_item(&mut self, alloc: Global, unit: &'u Unit, i: usize) -> Result<(), NoMemory>
-        requires { i < length unit.now.items }
-        ensures { (before : List StructDecl) (item : ItemTree) → slice_get (unit_tree unit.now) i ≡ Some item → HasStructs self.old.fields.items self.old.by_name before → OnOk result (HasStructs self.new.fields.items self.new.by_name (before ++ structs_of (item ∷ []))) }
+        requires within { i < length unit.now.items }
+        requires same { self.old.by_name.names ≡ unit.now.names }
+        ensures { (before : List StructDecl) (item : ItemTree) → slice_get (unit_tree unit.now) i ≡ Some item → HasStructs unit.now self.old.fields.items self.old.by_name before → OnOk result (HasStructs unit.now self.new.fields.items self.new.by_name (before ++ structs_of (item ∷ []))) }
     {
         match unit.item(CItemId(i)) {
-            CItem::Struct { fields, name } => {
-                self.add(alloc, unit, unit.name(*name), fields.as_slice())
-            }
+            CItem::Struct { fields, name } => { self.add(alloc, unit, *name, fields.as_slice()) }
             CItem::Text { .. } => Ok(()),
             CItem::Function { .. } => Ok(()),
         }
@@ -215,11 +271,13 @@ impl<'u> Structs<'u> {
         &mut self,
         alloc: Global,
         unit: &'u Unit,
-        name: &'u [u8],
+        name: CNameId,
         fields: &'u [CField],
     ) -> Result<(), NoMemory>
-        requires { HasFields unit.now fields.now }
-        ensures { (before : List StructDecl) → HasStructs self.old.fields.items self.old.by_name before → OnOk result (HasStructs self.new.fields.items self.new.by_name (before ++ record { fields = map (field_tree unit.now.names) fields.now; name = name.now } ∷ [])) }
+        requires name { HasName unit.now name }
+        requires fields { HasFields unit.now fields.now }
+        requires same { self.old.by_name.names ≡ unit.now.names }
+        ensures { (before : List StructDecl) → HasStructs unit.now self.old.fields.items self.old.by_name before → OnOk result (HasStructs unit.now self.new.fields.items self.new.by_name (before ++ record { fields = map (field_tree unit.now.names) fields.now; name = bytes_at unit.now.names name.0 } ∷ [])) }
     {
         let k = self.fields.len();
         let table = number_fields(alloc, unit, fields)?;
@@ -231,10 +289,10 @@ impl<'u> Structs<'u> {
 
 /// The structs of a unit.
 fn number_structs<'u>(alloc: Global, unit: &'u Unit) -> Result<Structs<'u>, NoMemory>
-    ensures { IfOk result (λ it. HasStructs it.fields.items it.by_name (structs_of (unit_tree unit.now))) }
+    ensures { IfOk result (λ it. HasStructs unit.now it.fields.items it.by_name (structs_of (unit_tree unit.now))) }
 {
     let mut structs = Structs {
-        by_name: NameTable::new(alloc),
+        by_name: NameTable::new(alloc, unit),
         fields: Vec::new(alloc),
     };
     let mut i = 0;

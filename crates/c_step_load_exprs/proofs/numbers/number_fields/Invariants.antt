@@ -1,4 +1,4 @@
-use Rattle.std.proofs.Common.{◌≤◌, ◌-◌, length, take, map}
+use Rattle.std.proofs.Common.{◌≡◌, ◌≤◌, ◌-◌, length, take, map}
 use Rattle.c_text.specs.CNodes.{bytes_at}
 use Rattle.c_step_load_exprs.specs.Knowing.{HasPlaces}
 use Rattle.c_step_load_exprs.proofs.numbers.number_fields.Given as goal
@@ -6,7 +6,8 @@ use Rattle.c_step_load_exprs.proofs.numbers.number_fields.Given as goal
 abbrev pub invariant-loop-i : goal.invariant-loop-i
 invariant-loop-i l = record {
   within : l.i ≤ length l.fields;
-  places : HasPlaces l.table (map (λ f. bytes_at l.unit.names f.name.0) (take l.i l.fields));
+  names : l.table.names ≡ l.unit.names;
+  places : HasPlaces l.table.entries (map (λ f. bytes_at l.unit.names f.name.0) (take l.i l.fields));
 }
 
 abbrev pub decreases-loop-i : goal.decreases-loop-i
