@@ -3,7 +3,7 @@ use Rattle.std.proofs.Common.{◌≡◌, ℕ, zero, suc, ◌+◌, ◌<◌, Bool,
 use Rattle.std.specs.List.{slice_get}
 use Rattle.std.specs.Option.{option_or, option_and_then}
 use Rattle.std.specs.Str.{bytes_eq}
-use Rattle.std.proofs.lemmas.List.{take_all, map-append}
+use Rattle.std.proofs.lemmas.List.{take_all, map-append, length-map, length-take-le}
 use Rattle.std.proofs.lemmas.Option.{slice_get_within, slice_get-get_or}
 use Rattle.wf_text.specs.declared.faults.NoMemory.{NoMemory}
 use Rattle.c_text.proofs.Arena.{slice_get-front, slice_get-seam}
@@ -98,6 +98,16 @@ field_name_has nodes (f ∷ fs) (suc i) within h = field_name_has nodes fs i (om
 pub field_names : (nodes : Nodes) (fs : List CField) → map (λ f. f.name) (map (field_tree nodes.names) fs) ≡ map (λ f. bytes_at nodes.names f.name.0) fs
 field_names nodes [] = refl
 field_names nodes (f ∷ fs) = ap (λ (names : List (List ℕ)). bytes_at nodes.names f.name.0 ∷ names) (field_names nodes fs)
+
+pub fields_more : (nodes : Nodes) (fs : List CField) (i : ℕ) (old new : Table ℕ) → i < length fs → old.names ≡ nodes.names
+    → ((names : List (List ℕ)) → i ≡ length names → HasPlaces old.entries names → HasPlaces new.entries (names ++ bytes_at old.names (get_or fs i no_field).name.0 ∷ []))
+    → HasPlaces old.entries (map (λ f. bytes_at nodes.names f.name.0) (take i fs)) → HasPlaces new.entries (map (λ f. bytes_at nodes.names f.name.0) (take (i + 1) fs))
+fields_more nodes fs i old new within same told h =
+    let one : CField → List ℕ = λ f. bytes_at nodes.names f.name.0 in
+    let x : CField = get_or fs i no_field in
+    let count : i ≡ length (map one (take i fs)) = sym (length-map (take i fs) one ∙ length-take-le i fs (omega (arith, within))) in
+    let more : map one (take (i + 1) fs) ≡ map one (take i fs) ++ one x ∷ [] = ap (map one) (take_one_more fs i x (slice_get-get_or fs i no_field within)) ∙ map-append one (take i fs) (x ∷ []) in
+    subst (HasPlaces new.entries) (ap (λ (names : List (List ℕ)). map one (take i fs) ++ bytes_at names x.name.0 ∷ []) same ∙ sym more) (told (map one (take i fs)) count h)
 
 pub struct_field : (nodes : Nodes) (tables : List (Table ℕ)) (k : ℕ) (x : Option StructDecl) (table : Table ℕ) (q : List ℕ) → Finds (HasFieldPlaces nodes tables) (Some k) x → slice_get tables k ≡ Some table → named table.entries q ≡ option_and_then (λ it. position (λ f. bytes_eq f.name q) it.fields) x
 struct_field nodes tables k x table q h is =

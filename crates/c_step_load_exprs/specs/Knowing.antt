@@ -35,10 +35,10 @@ abbrev pub HasStructs : Nodes → List (Table ℕ) → Table ℕ → List Struct
 HasStructs nodes tables by_name structs = TellsOf nodes (HasFieldPlaces nodes tables) (λ s. s.name) by_name structs
 
 -- Tables of what the items of a unit declare.
-pub record HasNumbers (nodes : Nodes) (by_struct : Table ℕ) (by_field : List (Table ℕ)) (texts functions : Table ℕ × List (List ℕ × ℕ)) : Type 0 where
+pub record HasNumbers (nodes : Nodes) (by_struct : Table ℕ) (by_field : List (Table ℕ)) (by_text by_function : Table ℕ × List (List ℕ × ℕ)) : Type 0 where
   pub structs : HasStructs nodes by_field by_struct (structs_of (unit_tree nodes))
-  pub texts : HasItems nodes texts.0 texts.1 (names_of kind.Text (unit_tree nodes))
-  pub functions : HasItems nodes functions.0 functions.1 (names_of kind.Function (unit_tree nodes))
+  pub texts : HasItems nodes by_text.0 by_text.1 (names_of kind.Text (unit_tree nodes))
+  pub functions : HasItems nodes by_function.0 by_function.1 (names_of kind.Function (unit_tree nodes))
 
 -- Each name is found from the last item on as it is from the first one on. So it is where no two structs and no two
 -- functions have one name.
