@@ -231,10 +231,10 @@ accepted-as : (name : List ℕ) (files : List (List ℕ)) (methods : ℕ) → Is
 accepted-as name files methods a =
     let read = a.read in
     let orders = kept-have-orders read.name read.texts (decls_of read) a.names in
-    let p = typed_package (in_order read orders.0 orders.1.0) in
+    let p = typed_package (in_order read orders.0 orders.1) in
     let accepted : IsAccepted name files (length p.methods) =
-    record { sized = a.sized; read = read; parsed = a.parsed; names = a.names; types = a.types; bounds = a.bounds; points = a.points; counted = typed-counted read orders.0 orders.1.0 } in
-    (p, record { verdict = accepted; runs = accepted-runs name files (length p.methods) accepted orders; order = orders.0; struct_order = orders.1.0; ordered = orders.1.1; tree = refl })
+    record { sized = a.sized; read = read; parsed = a.parsed; names = a.names; types = a.types; bounds = a.bounds; points = a.points; counted = typed-counted read orders.0 orders.1 } in
+    (p, record { verdict = accepted; runs = accepted-runs name files (length p.methods) accepted orders; order = orders.0; struct_order = orders.1; ordered = orders.2; tree = refl })
 
 module _ (asked : Asked) (faults : ℕ) where
   abbrev Answers : Option Command → Type 0

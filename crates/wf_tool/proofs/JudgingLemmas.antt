@@ -216,7 +216,7 @@ read-judged name files read (Ok a) named sized parsed h = (accepted_as, nodes_ha
     accepted_as : IsAcceptedAs name files (package_of a.nodes)
     accepted_as = record {
       verdict = accepted;
-      runs = accepted-runs name files (length (package_of a.nodes).methods) accepted (h.4.order, (h.4.struct_order, h.4.ordered));
+      runs = accepted-runs name files (length (package_of a.nodes).methods) accepted (h.4.order, h.4.struct_order, h.4.ordered);
       order = h.4.order;
       struct_order = h.4.struct_order;
       ordered = h.4.ordered;

@@ -59,9 +59,9 @@ pub verdict-files : RefusalsHaveFiles
 verdict-files name files refusal (large r) = large-file files refusal r
 verdict-files name files refusal (misread r) = refusals_have_files files refusal r.misread
 verdict-files name files refusal (misnamed r) = naming.packages_break_in_files name files r.read r.parsed refusal r.decides.breaks
-verdict-files name files refusal (mistyped r) = typing.packages_break_in_files name files r.read r.parsed [] refusal r.decides.breaks
-verdict-files name files refusal (out_of_bounds r) = read_bounds_have_files name files r.read r.parsed [] refusal r.first
-verdict-files name files refusal (has_too_many_points r) = read_points_have_files name files r.read r.parsed [] refusal r.decides.breaks
+verdict-files name files refusal (mistyped r) = typing.packages_break_in_files name files r.read r.parsed [] [] refusal r.decides.breaks
+verdict-files name files refusal (out_of_bounds r) = read_bounds_have_files name files r.read r.parsed [] [] refusal r.first
+verdict-files name files refusal (has_too_many_points r) = read_points_have_files name files r.read r.parsed [] [] refusal r.decides.breaks
 
 -- It is one of the files that the words name.
 pub held-file : (held : List ℕ → Option (List ℕ)) (name : List ℕ) (names files : List (List ℕ)) (refusal : Refusal) → AreHeld held names files → IsRefused name files refusal → refusal.at.file < length names

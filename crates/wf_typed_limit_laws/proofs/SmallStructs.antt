@@ -169,8 +169,8 @@ module _ (name : List ℕ) (texts : List (List ℕ)) (decls : List DeclTree) (fo
       let m = struct-resolved d decls i it e in
       let t = struct-typed i it e in
       let orders = kept-have-orders name texts decls kept in
-      let q = resolved_package name texts decls orders.0 orders.1.0 in
-      let is = package-is q (none-decides name texts decls orders.0 orders.1.0 well) (package-named name texts decls orders.0 orders.1.0 kept orders.1.1) in
+      let q = resolved_package name texts decls orders.0 orders.1 in
+      let is = package-is q (none-decides name texts decls orders.0 orders.1 well) (package-named name texts decls orders.0 orders.1 kept orders.2) in
       let known = all-at (λ s. AllByRecursion (λ v. AllByRecursion (IsKnown d (struct_scope d s)) (type_uses v.of)) s.fields) d.structs (in-fields d (IsKnown d) (use-known d kept)) i it e in
       let there = all-at (λ s. AllByRecursion (λ v. AllByRecursion (IsDeclaredStruct d) (type_uses v.of)) s.fields) d.structs (in-fields d (λ scope. IsDeclaredStruct d) (struct-known d kept)) i it e in
       let form = all-at (λ s. AllByRecursion (λ v. formed_type v.of ≡ true) s.fields) d.structs (structs-formed decls formed) i it e in
