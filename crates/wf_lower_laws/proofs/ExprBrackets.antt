@@ -331,7 +331,7 @@ by_rated_if : (k : ℕ) (b : Bool) (x y : Rated) → ExprBy k x.code → ExprBy 
 by_rated_if k true x y h j = h
 by_rated_if k false x y h j = j
 
-by_converted : (d k bits : ℕ) (a : Rated) → d + 1 ≤ k → 2 ≤ k → ExprBy d a.code → ExprBy k (converted bits a).code
+pub by_converted : (d k bits : ℕ) (a : Rated) → d + 1 ≤ k → 2 ≤ k → ExprBy d a.code → ExprBy k (converted bits a).code
 by_converted d k bits a l m h =
     let it = rated (cast (uint_of bits) a.code) (calculated bits) in
     let c : ExprBy k it.code = by_cast d k (uint_of bits) a.code l m h in

@@ -164,7 +164,7 @@ module _ (S : CScope) where
   rated_if true x y h j = h
   rated_if false x y h j = j
 
-  converted_kind : (bits : ℕ) (a : Rated) → IsNum S a.code → IsNum S (converted bits a).code
+  pub converted_kind : (bits : ℕ) (a : Rated) → IsNum S a.code → IsNum S (converted bits a).code
   converted_kind bits a h =
       let it = rated (cast (uint_of bits) a.code) (calculated bits) in
       rated_if (nat_lt (rank (calculated bits)) (rank a.ty)) it (if nat_eq (rank (calculated bits)) (rank a.ty) || (is_held a.code || nat_lt 0 (rank a.ty)) then a else it) (cast_kind bits a.code h)
