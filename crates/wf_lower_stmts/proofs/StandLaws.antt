@@ -26,7 +26,7 @@ use Rattle.wf_ast.specs.WellTyped.{breaks}
 use Rattle.wf_ast.proofs.Arena.{both_true, numbered_from_zero}
 use Rattle.wf_points.proofs.StatementArena.{stmt_is}
 use Rattle.wf_lower_stmts.specs.Forms.{holds_something, counts_bytes, awaits, keeps}
-use Rattle.wf_lower_stmts.specs.Lower.{continues}
+use Rattle.wf_lower_stmts.specs.Lower.{continues, is_return, returns}
 use Rattle.wf_lower_stmts.specs.declared.walks.Sought.{Sought}
 use Rattle.wf_lower_stmts.specs.declared.walks.Sought.TheVariants as sought
 use Rattle.wf_lower_stmts.specs.BodyNodes.{stands, is_break_of, is_continue_of, is_sought, stands_at, stands_among, stands_in_arms, stands_in_else, stands_in_if, stands_of, base_holds, base_counts, call_sought}
@@ -39,7 +39,7 @@ or_assoc : (a b c : Bool) → (a || (b || c)) ≡ ((a || b) || c)
 or_assoc true b c = refl
 or_assoc false b c = refl
 
--- The three tests in the words of the definition.
+-- The tests in the words of the definition.
 pub stands_breaks : (w : ℕ) (b : Block) → stands (is_break_of w) b ≡ breaks w b
 stands_breaks w end = refl
 stands_breaks w (plain site (break_from v) rest) = ap (λ x. nat_eq v w || x) (stands_breaks w rest)
@@ -67,6 +67,12 @@ stands_continues w (plain site (yield n) rest) = stands_continues w rest
 stands_continues w (plain site (claim goal ax) rest) = stands_continues w rest
 stands_continues w (choose site chained c a b rest) = let x = stands_continues w a in let y = stands_continues w b in let z = stands_continues w rest in rw (x, y, z) refl
 stands_continues w (loop site head body rest) = let x = stands_continues w body in let z = stands_continues w rest in rw (x, z) refl
+
+pub stands_returns : (b : Block) → stands is_return b ≡ returns b
+stands_returns end = refl
+stands_returns (plain site s rest) = ap (λ x. is_return s || x) (stands_returns rest)
+stands_returns (choose site chained c a b rest) = let x = stands_returns a in let y = stands_returns b in let z = stands_returns rest in rw (x, y, z) refl
+stands_returns (loop site head body rest) = let x = stands_returns body in let z = stands_returns rest in rw (x, z) refl
 
 pub stands_awaited : (test : Awaited → Bool) (b : Block) → stands (awaits test) b ≡ keeps test b
 stands_awaited test end = refl
@@ -175,42 +181,42 @@ base_counted at target on sigs.IsNote ts = refl
 base_counted at target on sigs.IsSuspension ts = refl
 base_counted at target on sigs.IsError ts = refl
 
--- No call is a jump.
+-- No call is a jump or a `return`.
 base_jumps : (w : ℕ) (at : Place) (target : Target) (on : ValueTree) (sig : BaseSig) (ts : List ValueTree)
-    → (is_break_of w (base_call at target on sig ts) ≡ false) × (is_continue_of w (base_call at target on sig ts) ≡ false)
-base_jumps w at target on (sigs.Read form) [] = (refl, refl)
-base_jumps w at target on (sigs.Read form) (t ∷ ts) = (refl, refl)
-base_jumps w at target on sigs.Skip [] = (refl, refl)
-base_jumps w at target on sigs.Skip (t ∷ []) = (refl, refl)
-base_jumps w at target on sigs.Skip (t ∷ u ∷ ts) = (refl, refl)
-base_jumps w at target on sigs.Write [] = (refl, refl)
-base_jumps w at target on sigs.Write (t ∷ []) = (refl, refl)
-base_jumps w at target on sigs.Write (t ∷ u ∷ ts) = (refl, refl)
-base_jumps w at target on sigs.SkipFast [] = (refl, refl)
-base_jumps w at target on sigs.SkipFast (t ∷ []) = (refl, refl)
-base_jumps w at target on sigs.SkipFast (t ∷ u ∷ []) = (refl, refl)
-base_jumps w at target on sigs.SkipFast (t ∷ u ∷ v ∷ ts) = (refl, refl)
-base_jumps w at target on sigs.WriteFast [] = (refl, refl)
-base_jumps w at target on sigs.WriteFast (t ∷ []) = (refl, refl)
-base_jumps w at target on sigs.WriteFast (t ∷ u ∷ ts) = (refl, refl)
-base_jumps w at target on sigs.WriterCopy [] = (refl, refl)
-base_jumps w at target on sigs.WriterCopy (t ∷ []) = (refl, refl)
-base_jumps w at target on sigs.WriterCopy (t ∷ u ∷ ts) = (refl, refl)
-base_jumps w at target on (sigs.SliceCopy width) [] = (refl, refl)
-base_jumps w at target on (sigs.SliceCopy width) (t ∷ []) = (refl, refl)
-base_jumps w at target on (sigs.SliceCopy width) (t ∷ u ∷ ts) = (refl, refl)
-base_jumps w at target on sigs.ReaderLength ts = (refl, refl)
-base_jumps w at target on sigs.ReaderIsClosed ts = (refl, refl)
-base_jumps w at target on sigs.ReaderPosition ts = (refl, refl)
-base_jumps w at target on (sigs.Peek form) ts = (refl, refl)
-base_jumps w at target on sigs.WriterLength ts = (refl, refl)
-base_jumps w at target on sigs.WriterPosition ts = (refl, refl)
-base_jumps w at target on (sigs.SliceLength width) ts = (refl, refl)
-base_jumps w at target on (sigs.ArrayLength width) ts = (refl, refl)
-base_jumps w at target on sigs.IsOk ts = (refl, refl)
-base_jumps w at target on sigs.IsNote ts = (refl, refl)
-base_jumps w at target on sigs.IsSuspension ts = (refl, refl)
-base_jumps w at target on sigs.IsError ts = (refl, refl)
+    → (is_break_of w (base_call at target on sig ts) ≡ false) × ((is_continue_of w (base_call at target on sig ts) ≡ false) × (is_return (base_call at target on sig ts) ≡ false))
+base_jumps w at target on (sigs.Read form) [] = (refl, (refl, refl))
+base_jumps w at target on (sigs.Read form) (t ∷ ts) = (refl, (refl, refl))
+base_jumps w at target on sigs.Skip [] = (refl, (refl, refl))
+base_jumps w at target on sigs.Skip (t ∷ []) = (refl, (refl, refl))
+base_jumps w at target on sigs.Skip (t ∷ u ∷ ts) = (refl, (refl, refl))
+base_jumps w at target on sigs.Write [] = (refl, (refl, refl))
+base_jumps w at target on sigs.Write (t ∷ []) = (refl, (refl, refl))
+base_jumps w at target on sigs.Write (t ∷ u ∷ ts) = (refl, (refl, refl))
+base_jumps w at target on sigs.SkipFast [] = (refl, (refl, refl))
+base_jumps w at target on sigs.SkipFast (t ∷ []) = (refl, (refl, refl))
+base_jumps w at target on sigs.SkipFast (t ∷ u ∷ []) = (refl, (refl, refl))
+base_jumps w at target on sigs.SkipFast (t ∷ u ∷ v ∷ ts) = (refl, (refl, refl))
+base_jumps w at target on sigs.WriteFast [] = (refl, (refl, refl))
+base_jumps w at target on sigs.WriteFast (t ∷ []) = (refl, (refl, refl))
+base_jumps w at target on sigs.WriteFast (t ∷ u ∷ ts) = (refl, (refl, refl))
+base_jumps w at target on sigs.WriterCopy [] = (refl, (refl, refl))
+base_jumps w at target on sigs.WriterCopy (t ∷ []) = (refl, (refl, refl))
+base_jumps w at target on sigs.WriterCopy (t ∷ u ∷ ts) = (refl, (refl, refl))
+base_jumps w at target on (sigs.SliceCopy width) [] = (refl, (refl, refl))
+base_jumps w at target on (sigs.SliceCopy width) (t ∷ []) = (refl, (refl, refl))
+base_jumps w at target on (sigs.SliceCopy width) (t ∷ u ∷ ts) = (refl, (refl, refl))
+base_jumps w at target on sigs.ReaderLength ts = (refl, (refl, refl))
+base_jumps w at target on sigs.ReaderIsClosed ts = (refl, (refl, refl))
+base_jumps w at target on sigs.ReaderPosition ts = (refl, (refl, refl))
+base_jumps w at target on (sigs.Peek form) ts = (refl, (refl, refl))
+base_jumps w at target on sigs.WriterLength ts = (refl, (refl, refl))
+base_jumps w at target on sigs.WriterPosition ts = (refl, (refl, refl))
+base_jumps w at target on (sigs.SliceLength width) ts = (refl, (refl, refl))
+base_jumps w at target on (sigs.ArrayLength width) ts = (refl, (refl, refl))
+base_jumps w at target on sigs.IsOk ts = (refl, (refl, refl))
+base_jumps w at target on sigs.IsNote ts = (refl, (refl, refl))
+base_jumps w at target on sigs.IsSuspension ts = (refl, (refl, refl))
+base_jumps w at target on sigs.IsError ts = (refl, (refl, refl))
 
 call_is_sought : (nodes : TypedNodes) (s : Sought) (at : Place) (target : Target) (keep : Bool) (callee : Callee) (args : List ExprId)
     → is_sought s (call_made nodes (tree_of nodes) at target keep callee (map (tree_of nodes) args)) ≡ call_sought nodes s callee args
@@ -219,7 +225,7 @@ call_is_sought nodes (sought.Break w) at target keep (callees.Sub x m) args = re
 call_is_sought nodes (sought.Break w) at target keep (callees.Base on sig) args = (base_jumps w.0 at target (tree_of nodes on) sig (map (tree_of nodes) args)).0
 call_is_sought nodes (sought.Continue w) at target keep (callees.Own m) args = refl
 call_is_sought nodes (sought.Continue w) at target keep (callees.Sub x m) args = refl
-call_is_sought nodes (sought.Continue w) at target keep (callees.Base on sig) args = (base_jumps w.0 at target (tree_of nodes on) sig (map (tree_of nodes) args)).1
+call_is_sought nodes (sought.Continue w) at target keep (callees.Base on sig) args = (base_jumps w.0 at target (tree_of nodes on) sig (map (tree_of nodes) args)).1.0
 call_is_sought nodes sought.Held at target keep (callees.Own m) args = refl
 call_is_sought nodes sought.Held at target keep (callees.Sub x m) args = refl
 call_is_sought nodes sought.Held at target keep (callees.Base on sig) args = base_held nodes at target (tree_of nodes on) sig args
@@ -227,13 +233,25 @@ call_is_sought nodes sought.Counted at target keep (callees.Own m) args = refl
 call_is_sought nodes sought.Counted at target keep (callees.Sub x m) args = refl
 call_is_sought nodes sought.Counted at target keep (callees.Base on sig) args =
     base_counted at target (tree_of nodes on) sig (map (tree_of nodes) args) ∙ ap (base_counts sig) (length-map args (tree_of nodes))
+call_is_sought nodes sought.Return at target keep (callees.Own m) args = refl
+call_is_sought nodes sought.Return at target keep (callees.Sub x m) args = refl
+call_is_sought nodes sought.Return at target keep (callees.Base on sig) args = (base_jumps 0 at target (tree_of nodes on) sig (map (tree_of nodes) args)).1.1
 
--- Statements that are no jump and wait for nothing.
-idle : (s : Sought) (x : Simple) → ((w : ℕ) → is_break_of w x ≡ false) → ((w : ℕ) → is_continue_of w x ≡ false) → ((test : Awaited → Bool) → awaits test x ≡ false) → is_sought s x ≡ false
-idle (sought.Break w) x b c m = b w.0
-idle (sought.Continue w) x b c m = c w.0
-idle sought.Held x b c m = m holds_something
-idle sought.Counted x b c m = m counts_bytes
+-- Statements that are no jump and no `return` and wait for nothing.
+idle : (s : Sought) (x : Simple) → ((w : ℕ) → is_break_of w x ≡ false) → ((w : ℕ) → is_continue_of w x ≡ false) → ((test : Awaited → Bool) → awaits test x ≡ false) → is_return x ≡ false → is_sought s x ≡ false
+idle (sought.Break w) x b c m r = b w.0
+idle (sought.Continue w) x b c m r = c w.0
+idle sought.Held x b c m r = m holds_something
+idle sought.Counted x b c m r = m counts_bytes
+idle sought.Return x b c m r = r
+
+-- A `return` is one whatever it gives.
+given_back : (s : Sought) (v : Option ValueTree) → is_sought s (give_back v) ≡ is_sought s (give_back None)
+given_back (sought.Break w) v = refl
+given_back (sought.Continue w) v = refl
+given_back sought.Held v = refl
+given_back sought.Counted v = refl
+given_back sought.Return v = refl
 
 lt_from : (m n : ℕ) → nat_lt m n ≡ true → m < n
 lt_from m n h = grind (arith, nat_tests, h)
@@ -312,7 +330,7 @@ module _ (nodes : TypedNodes) (ordered : each_numbered (λ s node. stmt_below no
 
     if_among : (site : Site) (arms : List Arm) (other : Option typed_code.Block) → list_all (λ a. is_expr nodes a.cond && block_below k a.body) arms ≡ true → optional_block_below k other ≡ true
         → stands (is_sought s) (if_made (tree_of nodes) (onto (stmt_makers nodes)) site arms other end) ≡ stands_in_if (stands_at nodes (is_sought s)) arms other
-    if_among site [] other h o = or_false _ ∙ idle s _ (λ w. refl) (λ w. refl) (λ test. refl)
+    if_among site [] other h o = or_false _ ∙ idle s _ (λ w. refl) (λ w. refl) (λ test. refl) refl
     if_among site (arm ∷ arms) other h o =
         let p = both_true (is_expr nodes arm.cond && block_below k arm.body) (list_all (λ a. is_expr nodes a.cond && block_below k a.body) arms) h in
         let q = both_true (is_expr nodes arm.cond) (block_below k arm.body) p.0 in
@@ -322,7 +340,7 @@ module _ (nodes : TypedNodes) (ordered : each_numbered (λ s node. stmt_below no
 
     by_stmt : (n : ℕ) (at close : Place) (st : Stmt) → stmt_below nodes k st ≡ true
         → stands (is_sought s) (stmt_made nodes (tree_of nodes) (onto (stmt_makers nodes)) n (record { stmt = st; at = at; inner = close }) end) ≡ stands_of nodes (stands_at nodes (is_sought s)) s st
-    by_stmt n at close (stmts.Assign target op value) h = or_false _ ∙ idle s _ (λ w. refl) (λ w. refl) (λ test. refl)
+    by_stmt n at close (stmts.Assign target op value) h = or_false _ ∙ idle s _ (λ w. refl) (λ w. refl) (λ test. refl) refl
     by_stmt n at close (stmts.Call target keep callee args) h = or_false _ ∙ call_is_sought nodes s close (optional_target (tree_of nodes) target) keep callee args
     by_stmt n at close (stmts.If arms otherwise) h =
         let p = both_true (list_all (λ a. is_expr nodes a.cond && block_below k a.body) arms) (optional_block_below k otherwise) h in
@@ -333,10 +351,10 @@ module _ (nodes : TypedNodes) (ordered : each_numbered (λ s node. stmt_below no
         or_false _ ∙ block_among body q.1
     by_stmt n at close (stmts.Break w) h = or_false _
     by_stmt n at close (stmts.Continue w) h = or_false _
-    by_stmt n at close (stmts.Return None) h = or_false _ ∙ idle s _ (λ w. refl) (λ w. refl) (λ test. refl)
-    by_stmt n at close (stmts.Return (Some e)) h = or_false _ ∙ idle s _ (λ w. refl) (λ w. refl) (λ test. refl)
-    by_stmt n at close (stmts.Yield k) h = or_false _ ∙ idle s _ (λ w. refl) (λ w. refl) (λ test. refl)
-    by_stmt n at close (stmts.Assert goal axiom_ref) h = or_false _ ∙ idle s _ (λ w. refl) (λ w. refl) (λ test. refl)
+    by_stmt n at close (stmts.Return None) h = or_false _
+    by_stmt n at close (stmts.Return (Some e)) h = or_false _ ∙ given_back s (Some (tree_of nodes e))
+    by_stmt n at close (stmts.Yield k) h = or_false _ ∙ idle s _ (λ w. refl) (λ w. refl) (λ test. refl) refl
+    by_stmt n at close (stmts.Assert goal axiom_ref) h = or_false _ ∙ idle s _ (λ w. refl) (λ w. refl) (λ test. refl) refl
 
   by_node : (i : StmtId) (n : StmtNode) → slice_get nodes.stmts i.0 ≡ Some n → stands_at nodes (is_sought s) i ≡ stands_of nodes (stands_at nodes (is_sought s)) s n.stmt
   unfolding stands_at

@@ -2,7 +2,7 @@
 -- a block and of the code after it, and likewise of what follows a block; so a label is found where the source goes on.
 use Rattle.std.specs.Prelude.{ℕ, Bool, true, false, ◌&&◌, ◌||◌, if◌then◌else◌, nat_eq, Option, None, Some}
 use Rattle.wf_ast.specs.declared.types.Ty.{Ty}
-use Rattle.wf_ast.specs.TypedTree.{Simple, continue_in, Site, Head, Block, end, plain, choose, loop}
+use Rattle.wf_ast.specs.TypedTree.{Simple, continue_in, give_back, Site, Head, Block, end, plain, choose, loop}
 use Rattle.wf_ast.specs.WellTyped.{is_coroutine, breaks}
 use Rattle.wf_meaning.specs.SourceState.{Behind}
 use Rattle.wf_meaning.specs.SourceState as source
@@ -60,10 +60,21 @@ behind_of top = source.stop
 behind_of (within_if passed rest t) = source.behind_if rest (behind_of t)
 behind_of (in_loop site head body rest t) = source.again site head body rest (behind_of t)
 
+-- A `return` stands in the block.
+abbrev pub is_return : Simple → Bool
+is_return (give_back value) = true
+is_return s = false
+
+abbrev pub returns : Block → Bool
+returns end = false
+returns (plain site s rest) = is_return s || returns rest
+returns (choose site chained c a b rest) = returns a || (returns b || returns rest)
+returns (loop site head body rest) = returns body || returns rest
+
 -- The end of a body. That of a coroutine stands after its `switch`, and answers ok; a method with a result never comes
--- to its end.
+-- to its end. Where it has no `return` at all, one stands there for C, which asks for one.
 abbrev pub ending_of : Form → (has_result : Bool) → Code
-ending_of f true = finish
+ending_of f true = if returns f.method.body then finish else give f (Some (num 0)) finish
 ending_of f false = put_all f finish
 
 abbrev pub has_result : Option Ty → Bool
