@@ -14,7 +14,7 @@ use Rattle.c_text.specs.declared.ids.CExprId.{CExprId}
 use Rattle.c_text.specs.CNodes.{Nodes}
 use Rattle.c_text.specs.CTree.{ExprTree, cast, Operands, no_operand, operand}
 use Rattle.wf_exprs.specs.Names.{Names}
-use Rattle.wf_exprs.specs.Exprs.{Rated, rated, calculated, place_code, peeked, raised, given, lowered, lowered_expr, lowered_cond, lowered_status}
+use Rattle.wf_exprs.specs.Exprs.{is_or as is_or_arith, Rated, rated, calculated, place_code, peeked, raised, given, lowered, lowered_expr, lowered_cond, lowered_status}
 use Rattle.wf_exprs.specs.Grown.{HasExpr}
 use Rattle.wf_exprs.specs.Making.{linked_by}
 use Rattle.wf_exprs.specs.Words.{num, two, uint_of}
@@ -40,6 +40,10 @@ abbrev pub repeats : OperatorKind → Bool
 repeats (arithmetic op) = repeats_arith op
 repeats (joining both) = true
 repeats (ordering op) = false
+
+abbrev pub is_or : OperatorKind → Bool
+is_or (arithmetic op) = is_or_arith op
+is_or sort = false
 
 -- A chain on from what stands left of it, operand by operand.
 abbrev pub chain_on : Names → OperatorKind → (bits : ℕ) → Rated → List NumTree → Rated

@@ -1,5 +1,5 @@
 -- How many brackets an expression opens: no more than five for each that stands inside another.
-use Rattle.std.proofs.Common.{◌≡◌, ℕ, ◌+◌, ◌-◌, ◌*◌, ◌≤◌, Bool, true, false, ◌&&◌, ◌||◌, List, Option, Some, None, nat_eq, refl, sym, subst, arith}
+use Rattle.std.proofs.Common.{◌≡◌, ℕ, ◌+◌, ◌-◌, ◌*◌, ◌^◌, ◌≤◌, Bool, true, false, ◌&&◌, ◌||◌, List, Option, Some, None, nat_eq, refl, sym, subst, arith}
 use Rattle.std.specs.Prelude.{if◌then◌else◌, nat_le, nat_lt}
 use Rattle.std.proofs.lemmas.Bool.Decides.{nat_tests}
 use Rattle.std.proofs.lemmas.Slice.Eq.{bytes_eq-Decides}
@@ -22,7 +22,7 @@ use Rattle.c_text.specs.CTree as c
 use Rattle.wf_exprs.specs.Names.{Names}
 use Rattle.wf_exprs.specs.Words.{num, uint_of, two}
 use Rattle.wf_ast.specs.Value.{same_truth}
-use Rattle.wf_exprs.specs.Exprs.{calculated, rank, Rated, rated, recast, firm, balanced, op_of, with_operand, same_op, chained, saturated, cut_off, factor, linked, converted, path_code, Pair, path_pair, is_array, moved, part_pointer, part_length, place_code, bytes_code, peeked, raised, peek_code, asked_code, lowered, lowered_slice, lowered_end, given, status_constant, lowered_status, same_code, is_literal, is_held, compared, is_constant, constant_number, constants_compared, held_compared, statuses_compared, begins_with, category_code, lowered_cond}
+use Rattle.wf_exprs.specs.Exprs.{calculated, rank, Rated, rated, recast, firm, balanced, op_of, with_operand, same_op, chained, saturated, cut_off, factor, linked, converted, path_code, Pair, path_pair, is_array, moved, part_pointer, part_length, place_code, bytes_code, peeked, raised, peek_code, asked_code, lowered, lowered_slice, lowered_end, has_ones, is_ones, link_compared, comparand, given, status_constant, lowered_status, same_code, is_literal, is_held, compared, is_constant, constant_number, constants_compared, held_compared, statuses_compared, begins_with, category_code, lowered_cond}
 use Rattle.wf_lower_laws.specs.BracketLaw.{repeats, goes_on, cond_goes_on, num_within, slice_within, end_within, cond_within}
 use Rattle.wf_lower_laws.proofs.Apart.{same_number}
 use Rattle.wf_lower_laws.proofs.OpenBrackets.{ExprOpens, OperandsOpen}
@@ -481,11 +481,62 @@ module _ (names : Names) where
     end_by d absent h = tt
     end_by d (present e) h = num_by d e h
 
+  -- A complement opens no more than its operands.
+  ones_by : (k bits : ℕ) (t : NumTree) → is_ones bits t ≡ true → ExprBy k (lowered names t).code
+  ones_by k bits (number at n) h = by_num k n
+  ones_by k bits (read at of path) h = absurd (cc h)
+  ones_by k bits (element at of cells index) h = absurd (cc h)
+  ones_by k bits (link at sign op own joined a b) h = absurd (cc h)
+  ones_by k bits (convert at sign own a) h = absurd (cc h)
+  ones_by k bits (length_of at cells) h = absurd (cc h)
+  ones_by k bits (asked at question a) h = absurd (cc h)
+
+  complement_by : (d k : ℕ) (op : Arith) (joined one other : Bool) (a b whole : ExprTree) → d + 1 ≤ k → (joined ≡ false → ExprBy d a) → ExprBy d b → (one ≡ true → ExprBy d a) → ExprBy k whole
+      → ExprBy k (link_compared op joined one other a b whole)
+  complement_by d k bits_xor true one other a b whole l h j u w = w
+  complement_by d k bits_xor false one true a b whole l h j u w = by_two d k Sub b a l j (h refl)
+  complement_by d k bits_xor false true false a b whole l h j u w = by_two d k Sub a b l (h refl) j
+  complement_by d k bits_xor false false false a b whole l h j u w = w
+  complement_by d k mod_minus joined true other a b whole l h j u w = by_two d k Sub a b l (u refl) j
+  complement_by d k mod_minus joined false other a b whole l h j u w = w
+  complement_by d k plus joined one other a b whole l h j u w = w
+  complement_by d k minus joined one other a b whole l h j u w = w
+  complement_by d k times joined one other a b whole l h j u w = w
+  complement_by d k divided joined one other a b whole l h j u w = w
+  complement_by d k remainder joined one other a b whole l h j u w = w
+  complement_by d k shift_left joined one other a b whole l h j u w = w
+  complement_by d k shift_right joined one other a b whole l h j u w = w
+  complement_by d k bits_and joined one other a b whole l h j u w = w
+  complement_by d k bits_or joined one other a b whole l h j u w = w
+  complement_by d k mod_plus joined one other a b whole l h j u w = w
+  complement_by d k mod_times joined one other a b whole l h j u w = w
+  complement_by d k mod_shift_left joined one other a b whole l h j u w = w
+  complement_by d k sat_plus joined one other a b whole l h j u w = w
+  complement_by d k sat_minus joined one other a b whole l h j u w = w
+
+  pub comparand_by : (d : ℕ) (t : NumTree) → num_within d t ≡ true → ExprBy (5 * d + 5) (comparand names t).code
+  comparand_by d (number at n) h = num_by d (number at n) h
+  comparand_by d (read at of path) h = num_by d (read at of path) h
+  comparand_by d (element at of cells index) h = num_by d (element at of cells index) h
+  comparand_by d (link at sign op bits joined a b) h =
+      let p = both_true (nat_le 1 d) _ h in
+      let q = both_true (num_within (if joined && goes_on op bits a then d else d - 1) a) (num_within (d - 1) b) p.1 in
+      let left : joined ≡ false → ExprBy (5 * (d - 1) + 5) (lowered names a).code =
+      λ e. let P : Bool → Type 0 = λ t. num_within (if t && goes_on op bits a then d else d - 1) a ≡ true in num_by (d - 1) a (subst P e q.0) in
+      complement_by (5 * (d - 1) + 5) (5 * d + 5) op joined (is_ones bits a) (is_ones bits b) _ _ _ (omega (arith, at_least_one d p.0)) left (num_by (d - 1) b q.1) (ones_by (5 * (d - 1) + 5) bits a)
+      (num_by d (link at sign op bits joined a b) h)
+  comparand_by d (convert at sign bits a) h =
+      let p = both_true (nat_le 1 d) (num_within (d - 1) a) h in
+      by_converted (5 * (d - 1) + 5) (5 * d + 5) bits (comparand names a) (omega (arith, at_least_one d p.0)) (omega arith) (comparand_by (d - 1) a p.1)
+  comparand_by d (length_of at cells) h = num_by d (length_of at cells) h
+  comparand_by d (asked at question a) h = num_by d (asked at question a) h
+
   pub given_by : (d : ℕ) (t : NumTree) → num_within d t ≡ true → ExprBy (5 * d + 5) (given names t)
   given_by d (number at n) h = num_by d (number at n) h
   given_by d (read at of path) h = num_by d (read at of path) h
   given_by d (element at of cells index) h = num_by d (element at of cells index) h
-  given_by d (link at sign op bits joined a b) h = num_by d (link at sign op bits joined a b) h
+  given_by d (link at sign op bits joined a b) h =
+      by_if (5 * d + 5) (has_ones bits (link at sign op bits joined a b)) (num (2 ^ bits - 1)) _ (by_num (5 * d + 5) (2 ^ bits - 1)) (num_by d (link at sign op bits joined a b) h)
   given_by d (convert at sign bits a) h = by_more (5 * (d - 1) + 5) (5 * d + 5) _ (omega arith) (given_by (d - 1) a (both_true (nat_le 1 d) (num_within (d - 1) a) h).1)
   given_by d (length_of at cells) h = num_by d (length_of at cells) h
   given_by d (asked at question a) h = num_by d (asked at question a) h
@@ -582,7 +633,7 @@ module _ (names : Names) where
   cond_by d (compare at sign a op b) h =
       let p = both_true (nat_le 1 d) (num_within (d - 1) a && num_within (d - 1) b) h in
       let q = both_true (num_within (d - 1) a) (num_within (d - 1) b) p.1 in
-      by_compared (5 * (d - 1) + 5) (5 * d + 5) op _ _ (omega (arith, at_least_one d p.0)) (num_by (d - 1) a q.0) (num_by (d - 1) b q.1)
+      by_compared (5 * (d - 1) + 5) (5 * d + 5) op _ _ (omega (arith, at_least_one d p.0)) (comparand_by (d - 1) a q.0) (comparand_by (d - 1) b q.1)
   cond_by d (same_status at sign a one b) h = by_statuses (5 * d + 5) one a b (omega arith)
   cond_by d (junction at both joined a b) h =
       let p = both_true (nat_le 1 d) (cond_within (if joined && cond_goes_on both a then d else d - 1) a && cond_within (d - 1) b) h in

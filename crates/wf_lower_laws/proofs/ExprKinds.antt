@@ -24,7 +24,7 @@ use Rattle.c_meaning.specs.CValues.{common}
 use Rattle.c_meaning.specs.CTypes.{CScope, promoted, ExprType, numbers, points_to, zero_literal, byte, as_number, arithmetic_type, sum_type, one_type, test_type, operation_type, operations_type, type_of, operand_types, cast_from, literal_type}
 use Rattle.wf_exprs.specs.Names.{Names}
 use Rattle.wf_exprs.specs.Words.{literal, num, uint_of, width_of, two}
-use Rattle.wf_exprs.specs.Exprs.{calculated, rank, Rated, rated, recast, firm, balanced, with_operand, same_op, chained, cut_off, factor, linked, converted, is_held, is_array as is_whole, moved, part_pointer, part_length, io_code, place_code, end_code, peeked, raised, peek_code, asked_code, same_code, compared, is_literal, is_constant, constant_number, constants_compared, held_compared, statuses_compared, begins_with, category_code, lowered, lowered_slice, lowered_end, lowered_status, lowered_cond}
+use Rattle.wf_exprs.specs.Exprs.{calculated, rank, Rated, rated, recast, firm, balanced, with_operand, same_op, chained, cut_off, factor, linked, converted, is_held, is_array as is_whole, moved, part_pointer, part_length, io_code, place_code, end_code, peeked, raised, peek_code, asked_code, same_code, compared, is_literal, is_constant, constant_number, constants_compared, held_compared, statuses_compared, begins_with, category_code, lowered, lowered_slice, lowered_end, is_ones, link_compared, comparand, lowered_status, lowered_cond}
 use Rattle.wf_lower_laws.specs.KindLaw.{IsNum, IsPointer, IsText, IsBuffer, Declares, has_op, has_question, num_served, slice_served, end_served, status_served, cond_served, ExpressionsKeepKinds}
 
 module _ (S : CScope) where
@@ -358,6 +358,46 @@ module _ (S : CScope) where
       end_kind absent w s = tt
       end_kind (present e) w s = number_kind e (both_true (is_whole_number e) (well_part x e) w).1 s
 
+    complement_kind : (op : Arith) (joined one other : Bool) (a b whole : ExprTree) → IsNum S a → IsNum S b → IsNum S whole → IsNum S (link_compared op joined one other a b whole)
+    complement_kind bits_xor joined one other a b whole h j k =
+        kind_if joined whole _ k (kind_if other (two Sub b a) _ (two_kind Sub b a j h) (kind_if one (two Sub a b) whole (two_kind Sub a b h j) k))
+    complement_kind mod_minus joined one other a b whole h j k = kind_if one (two Sub a b) whole (two_kind Sub a b h j) k
+    complement_kind plus joined one other a b whole h j k = k
+    complement_kind minus joined one other a b whole h j k = k
+    complement_kind times joined one other a b whole h j k = k
+    complement_kind divided joined one other a b whole h j k = k
+    complement_kind remainder joined one other a b whole h j k = k
+    complement_kind shift_left joined one other a b whole h j k = k
+    complement_kind shift_right joined one other a b whole h j k = k
+    complement_kind bits_and joined one other a b whole h j k = k
+    complement_kind bits_or joined one other a b whole h j k = k
+    complement_kind mod_plus joined one other a b whole h j k = k
+    complement_kind mod_times joined one other a b whole h j k = k
+    complement_kind mod_shift_left joined one other a b whole h j k = k
+    complement_kind sat_plus joined one other a b whole h j k = k
+    complement_kind sat_minus joined one other a b whole h j k = k
+
+    comparand_kind : (t : NumTree) → well_part x t ≡ true → num_served has t ≡ true → IsNum S (comparand names t).code
+    comparand_kind (link at sign op bits joined a b) w s =
+        let p = (both_true (is_width bits) _ w).1 in
+        let q = (both_true (fits bits a) _ p).1 in
+        let r = (both_true (is_shift op || fits bits b) _ q).1 in
+        let u = (both_true (not joined || continues op bits a) _ r).1 in
+        let v = (both_true (joined || is_whole_number a) _ u).1 in
+        let y = both_true (well_part x a) _ v in
+        let z = both_true (is_whole_number b) (well_part x b) y.1 in
+        let m = both_true (has_op has op bits) (num_served has a && num_served has b) s in
+        let n = both_true (num_served has a) (num_served has b) m.1 in
+        complement_kind op joined (is_ones bits a) (is_ones bits b) _ _ _ (number_kind a y.0 n.0) (number_kind b z.1 n.1) (number_kind (link at sign op bits joined a b) w s)
+    comparand_kind (convert at sign bits a) w s =
+        let p = (both_true (is_width bits) _ w).1 in
+        converted_kind bits (comparand names a) (comparand_kind a (both_true (is_whole_number a) (well_part x a) p).1 s)
+    comparand_kind (number at n) w s = number_kind (number at n) w s
+    comparand_kind (read at of path) w s = number_kind (read at of path) w s
+    comparand_kind (element at of cells index) w s = number_kind (element at of cells index) w s
+    comparand_kind (length_of at cells) w s = number_kind (length_of at cells) w s
+    comparand_kind (asked at question a) w s = number_kind (asked at question a) w s
+
     status_kind : (t : StatusTree) → well_status x t ≡ true → status_served knows t ≡ true → IsText S (lowered_status names t)
     status_kind (status at n) w s = d.constants n s
     status_kind (held at path) w s = inr (d.statuses path w)
@@ -381,7 +421,7 @@ module _ (S : CScope) where
         let p = (both_true _ (well_num x a && well_num x b) w).1 in
         let q = both_true (well_num x a) (well_num x b) p in
         let u = both_true (num_served has a) (num_served has b) s in
-        compared_kind op _ _ (number_kind a (both_true (is_whole_number a) (well_part x a) q.0).1 u.0) (number_kind b (both_true (is_whole_number b) (well_part x b) q.1).1 u.1)
+        compared_kind op _ _ (comparand_kind a (both_true (is_whole_number a) (well_part x a) q.0).1 u.0) (comparand_kind b (both_true (is_whole_number b) (well_part x b) q.1).1 u.1)
     condition_kind (same_status at sign a one b) w s =
         let p = both_true (well_status x a) (well_status x b) w in
         let u = both_true (status_served knows a) (status_served knows b) s in
