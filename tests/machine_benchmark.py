@@ -6,9 +6,10 @@ usage: machine_benchmark.py PROGRAM [NAME..]    only the ways to grow that are n
 
 1. A loop over the bytes of an array, five statements a turn, for a million turns: two processor seconds are the aim.
 2. Texts that grow in one way, by steps of two, up to a mebibyte: functions, `static inline` functions that call one another, the same
-   beside an expression that grows with them, labels, cases, names of one function, operands, calls, `else if`s and statements. For each step comes the exponent of its growth, 1.00 being in proportion; what passes 1.10 at the last step
-   is told as too much, and so is a text that memory doesn't do for. What is counted is instructions where valgrind is there, else
-   processor seconds. The cost of the shortest text is taken off.
+   beside an expression that grows with them, labels, cases, names of one function, operands, calls, `else if`s, statements, and
+   members of a struct whose name grows with them. For each step comes the exponent of its growth, 1.00 being in proportion; what
+   passes 1.10 at the last step is told as too much, and so is a text that memory doesn't do for. What is counted is instructions
+   where valgrind is there, else processor seconds. The cost of the shortest text is taken off.
 """
 import math
 import pathlib
@@ -57,6 +58,13 @@ def inlines(n):
     return "".join(f"static inline _Bool f{i}(void) {{ return {f'(f{i - 1}())' if i % 64 else 0}; }}\n" for i in range(n))
 
 
+def members(n):
+    """Uses of a member of a struct whose name is as long as all these uses: p->x doesn't name the struct."""
+    name = "s" * (17 * n)
+    body = " ".join(["p->x = (p->x & 1);"] * n)
+    return f"typedef struct {{ uint32_t x; }} {name};\nstatic uint32_t g({name}* p) {{ {body} return p->x; }}\n" + entry("")
+
+
 SHAPES = {
     "functions": lambda n: "".join(f"static uint32_t f{i}(uint32_t a) {{ return (a + {i}); }}\n" for i in range(n)) + entry(""),
     "inline": lambda n: inlines(n) + entry(""),
@@ -68,6 +76,7 @@ SHAPES = {
     "calls": lambda n: "static uint32_t g(uint32_t a) { return a; }\n" + entry(" ".join(["x = g(x);"] * n)),
     "else ifs": lambda n: entry("if (a_n) { }" + "".join([f" else if ((a_n == {i})) {{ x = {i}; }}" for i in range(n)])),
     "statements": lambda n: entry(" ".join(["x = (x + a_n);"] * n)),
+    "members": members,
 }
 
 

@@ -9,7 +9,7 @@ ghost use Rattle.c_form.specs.Signatures.{signature_of, method_by};
 
 use crate::names::{function_name, type_name};
 use crate::signatures::{Asked, has_signature, is_struct};
-use c_form_exprs::NameTable;
+use c_form_exprs::SpellingTable;
 use c_text::Unit;
 use std::alloc::Global;
 use std::marker::Model;
@@ -19,7 +19,7 @@ use wf_text::NoMemory;
 /// Whether each item has met what was asked of its name, and whether all functions that were asked for are there.
 pub(crate) struct Demands<'n, 'u> {
     unit: &'u Unit,
-    names: &'n NameTable<'u, usize>,
+    names: &'n SpellingTable<'u, usize>,
     met: Vec<bool>,
     complete: bool,
 }
@@ -54,7 +54,7 @@ impl<'n, 'u> Demands<'n, 'u> {
     pub fn of(
         alloc: Global,
         unit: &'u Unit,
-        names: &'n NameTable<'u, usize>,
+        names: &'n SpellingTable<'u, usize>,
         surface: &PublicSurface,
     ) -> Result<Demands<'n, 'u>, NoMemory>
         requires { (q : List ℕ) → named names.now q ≡ item_at 0 (unit_tree unit.now) q }
@@ -72,7 +72,7 @@ impl<'n, 'u> Demands<'n, 'u> {
     fn new(
         alloc: Global,
         unit: &'u Unit,
-        names: &'n NameTable<'u, usize>,
+        names: &'n SpellingTable<'u, usize>,
     ) -> Result<Demands<'n, 'u>, NoMemory>
         requires { (q : List ℕ) → named names.now q ≡ item_at 0 (unit_tree unit.now) q }
         ensures { IfOk result (λ it. it ≡ none_asked unit.now) }

@@ -2,8 +2,8 @@
 
 ghost use Rattle.std.specs.Prelude.{◌≡◌, ◌<◌, ℕ, List, [], map, length, option_map, IfOk, Some};
 ghost use Rattle.std.specs.List.{slice_get};
-ghost use Rattle.c_text.specs.CNodes.{unit_tree, type_in, field_tree};
-ghost use Rattle.c_text.specs.CFits.{HasField, HasFields};
+ghost use Rattle.c_text.specs.CNodes.{bytes_at, unit_tree, type_in, field_tree};
+ghost use Rattle.c_text.specs.CFits.{HasName, HasField, HasFields};
 ghost use Rattle.c_meaning.specs.CTypes.{structs_of};
 ghost use Rattle.c_meaning.specs.UnitForm.{item_name, formed_field, is_value as is_value_type, is_length as is_length_of, is_field as is_field_of, are_fields, io_buffer_fields, is_io_buffer};
 ghost use Rattle.c_form_exprs.specs.Front.{front_items};
@@ -12,21 +12,22 @@ ghost use Rattle.c_form.specs.Items.{item_at, formed_alone, fields_fit};
 ghost use Rattle.c_form.specs.Signatures.{wanted_type};
 
 use crate::signatures::{Wanted, is_type};
-use c_form_exprs::{Front, NameTable};
+use c_form_exprs::{Front, SpellingTable};
 use c_form_stmts::{Parts, is_formed_function, is_library};
 use c_text::{CField, CFieldType, CItem, CItemId, CNameId, CNumber, CType, CUint, Unit};
 use std::alloc::Global;
 use wf_text::NoMemory;
 
 /// The name that an item declares.
-pub(crate) fn name_of<'u>(unit: &'u Unit, i: usize) -> &'u [u8]
+pub(crate) fn name_of(unit: &Unit, i: usize) -> CNameId
     requires { i < length unit.now.items }
-    ensures { option_map item_name (slice_get (unit_tree unit.now) i) ≡ Some result.now }
+    ensures has { HasName unit.now result }
+    ensures is { option_map item_name (slice_get (unit_tree unit.now) i) ≡ Some (bytes_at unit.now.names result.0) }
 {
     match unit.item(CItemId(i)) {
-        CItem::Struct { name, .. } => unit.name(*name),
-        CItem::Text { name, .. } => unit.name(*name),
-        CItem::Function { name, .. } => unit.name(*name),
+        CItem::Struct { name, .. } => *name,
+        CItem::Text { name, .. } => *name,
+        CItem::Function { name, .. } => *name,
     }
 }
 
@@ -34,13 +35,13 @@ pub(crate) fn name_of<'u>(unit: &'u Unit, i: usize) -> &'u [u8]
 pub(crate) fn item_names<'u>(
     alloc: Global,
     unit: &'u Unit,
-) -> Result<NameTable<'u, usize>, NoMemory>
+) -> Result<SpellingTable<'u, usize>, NoMemory>
     ensures { IfOk result (λ table. (q : List ℕ) → named table q ≡ item_at 0 (unit_tree unit.now) q) }
 {
-    let mut table = NameTable::new(alloc);
+    let mut table = SpellingTable::new(alloc);
     let mut i = 0;
     while i < unit.items() {
-        table.add(name_of(unit, i), i)?;
+        table.add(unit.name(name_of(unit, i)), i)?;
         i += 1;
     }
     Ok(table)
@@ -50,7 +51,7 @@ pub(crate) fn item_names<'u>(
 pub(crate) fn is_formed_item<'u>(
     alloc: Global,
     front: &Front<'u>,
-    names: &NameTable<'u, usize>,
+    names: &SpellingTable<'u, usize>,
     i: usize,
 ) -> Result<bool, NoMemory>
     requires at { i ≡ front.now.count }
@@ -63,7 +64,7 @@ pub(crate) fn is_formed_item<'u>(
         return Ok(is_io_buffer_item(unit, i));
     }
     let name = name_of(unit, i);
-    if front.is_declared(name) || is_library(name) {
+    if front.is_declared(name) || is_library(unit.name(name)) {
         return Ok(false);
     }
     match unit.item(CItemId(i)) {
@@ -118,9 +119,7 @@ fn is_formed_field(front: &Front<'_>, field: CField) -> bool
 {
     match field.kind {
         CFieldType::Plain(ty) => is_value(ty) && is_length(field.count),
-        CFieldType::Struct(name) => {
-            front.is_struct(front.unit().name(name)) && field.count.is_none()
-        }
+        CFieldType::Struct(name) => { front.is_struct(name) && field.count.is_none() }
     }
 }
 
@@ -130,7 +129,7 @@ fn are_formed_fields(alloc: Global, front: &Front<'_>, fields: &[CField]) -> Res
     ensures { IfOk result (λ formed. formed ≡ fields_fit (structs_of (front_items front.now)) [] (map (field_tree front.now.nodes.names) fields.now)) }
 {
     let unit = front.unit();
-    let mut seen = NameTable::new(alloc);
+    let mut seen = SpellingTable::new(alloc);
     for field in fields {
         if !is_formed_field(front, *field) {
             return Ok(false);

@@ -7,11 +7,11 @@ use Rattle.std.proofs.lemmas.Bool.{eqb-true, eq-eqb}
 use Rattle.std.proofs.lemmas.Option.{slice_get_within}
 use Rattle.c_text.specs.declared.nodes.CField.{CField}
 use Rattle.c_text.specs.CTree.{ItemTree, struct_item, text_item, function_item}
-use Rattle.c_text.specs.CNodes.{Nodes, unit_tree}
+use Rattle.c_text.specs.CNodes.{Nodes, bytes_at, unit_tree}
 use Rattle.c_meaning.specs.CTypes.{StructDecl, structs_of, texts_of, functions_of, struct_named, function_named, field_named}
 use Rattle.c_meaning.specs.UnitForm.{is_among, item_name}
 use Rattle.c_form_exprs.specs.declared.front.Head.{Head}
-use Rattle.c_form_exprs.specs.Tables.{named}
+use Rattle.c_form_exprs.specs.Tables.{Table, named}
 use Rattle.c_form_exprs.specs.Front.{Lists, Finds, IsText, IsField, IsStruct, IsHead, TellsFront}
 
 nat_eq-swap : (m n : ℕ) → nat_eq m n ≡ nat_eq n m
@@ -50,32 +50,47 @@ pub found_alike : {V X : Type 0} (tells : V → X → Type 0) (v : Option V) (x 
 found_alike tells None x h = rw h refl
 found_alike tells (Some v) x h = rw h.1 refl
 
-pub struct_listed : (nodes : Nodes) (count : ℕ) (structs : List (List ℕ × ℕ)) (fields : List (List (List ℕ × CField))) (texts : List (List ℕ × Unit {0})) (functions : List (List ℕ × Head)) → TellsFront nodes count structs fields texts functions → (q : List ℕ) → is_some (named structs q) ≡ is_some (struct_named (structs_of (take count (unit_tree nodes))) q)
-struct_listed nodes count structs fields texts functions h q = found_alike (IsStruct nodes fields) (named structs q) (struct_named (structs_of (take count (unit_tree nodes))) q) (h.structs q)
+-- The unit's names are those of each table.
+pub in_structs : (nodes : Nodes) (count : ℕ) (structs : Table ℕ) (fields : List (Table CField)) (texts : Table (Unit {0})) (functions : Table Head) → TellsFront nodes count structs fields texts functions → (n : ℕ) → n < length nodes.names → n < length structs.names
+in_structs nodes count structs fields texts functions h n has = rw h.structs.names has
 
-pub text_listed : (nodes : Nodes) (count : ℕ) (structs : List (List ℕ × ℕ)) (fields : List (List (List ℕ × CField))) (texts : List (List ℕ × Unit {0})) (functions : List (List ℕ × Head)) → TellsFront nodes count structs fields texts functions → (q : List ℕ) → is_some (named texts q) ≡ is_some (find (λ it. bytes_eq it.name q) (texts_of (take count (unit_tree nodes))))
-text_listed nodes count structs fields texts functions h q = found_alike IsText (named texts q) (find (λ it. bytes_eq it.name q) (texts_of (take count (unit_tree nodes)))) (h.texts q)
+pub in_texts : (nodes : Nodes) (count : ℕ) (structs : Table ℕ) (fields : List (Table CField)) (texts : Table (Unit {0})) (functions : Table Head) → TellsFront nodes count structs fields texts functions → (n : ℕ) → n < length nodes.names → n < length texts.names
+in_texts nodes count structs fields texts functions h n has = rw h.texts.names has
 
-pub function_listed : (nodes : Nodes) (count : ℕ) (structs : List (List ℕ × ℕ)) (fields : List (List (List ℕ × CField))) (texts : List (List ℕ × Unit {0})) (functions : List (List ℕ × Head)) → TellsFront nodes count structs fields texts functions → (q : List ℕ) → Finds (IsHead nodes) (named functions q) (function_named (functions_of (take count (unit_tree nodes))) q)
-function_listed nodes count structs fields texts functions h q = h.functions q
+pub in_functions : (nodes : Nodes) (count : ℕ) (structs : Table ℕ) (fields : List (Table CField)) (texts : Table (Unit {0})) (functions : Table Head) → TellsFront nodes count structs fields texts functions → (n : ℕ) → n < length nodes.names → n < length functions.names
+in_functions nodes count structs fields texts functions h n has = rw h.functions.names has
 
-pub function_known : (nodes : Nodes) (count : ℕ) (structs : List (List ℕ × ℕ)) (fields : List (List (List ℕ × CField))) (texts : List (List ℕ × Unit {0})) (functions : List (List ℕ × Head)) → TellsFront nodes count structs fields texts functions → (q : List ℕ) → is_some (named functions q) ≡ is_some (function_named (functions_of (take count (unit_tree nodes))) q)
-function_known nodes count structs fields texts functions h q = found_alike (IsHead nodes) (named functions q) (function_named (functions_of (take count (unit_tree nodes))) q) (h.functions q)
+pub struct_listed : (nodes : Nodes) (count : ℕ) (structs : Table ℕ) (fields : List (Table CField)) (texts : Table (Unit {0})) (functions : Table Head) → TellsFront nodes count structs fields texts functions → (n : ℕ) → is_some (named structs.entries (bytes_at structs.names n)) ≡ is_some (struct_named (structs_of (take count (unit_tree nodes))) (bytes_at nodes.names n))
+struct_listed nodes count structs fields texts functions h n = rw h.structs.names (found_alike (IsStruct nodes fields) (named structs.entries (bytes_at nodes.names n)) (struct_named (structs_of (take count (unit_tree nodes))) (bytes_at nodes.names n)) (h.structs.tells_all (bytes_at nodes.names n)))
+
+pub text_listed : (nodes : Nodes) (count : ℕ) (structs : Table ℕ) (fields : List (Table CField)) (texts : Table (Unit {0})) (functions : Table Head) → TellsFront nodes count structs fields texts functions → (n : ℕ) → is_some (named texts.entries (bytes_at texts.names n)) ≡ is_some (find (λ it. bytes_eq it.name (bytes_at nodes.names n)) (texts_of (take count (unit_tree nodes))))
+text_listed nodes count structs fields texts functions h n = rw h.texts.names (found_alike IsText (named texts.entries (bytes_at nodes.names n)) (find (λ it. bytes_eq it.name (bytes_at nodes.names n)) (texts_of (take count (unit_tree nodes)))) (h.texts.tells_all (bytes_at nodes.names n)))
+
+pub function_listed : (nodes : Nodes) (count : ℕ) (structs : Table ℕ) (fields : List (Table CField)) (texts : Table (Unit {0})) (functions : Table Head) → TellsFront nodes count structs fields texts functions → (n : ℕ) → Finds (IsHead nodes) (named functions.entries (bytes_at functions.names n)) (function_named (functions_of (take count (unit_tree nodes))) (bytes_at nodes.names n))
+function_listed nodes count structs fields texts functions h n = rw h.functions.names (h.functions.tells_all (bytes_at nodes.names n))
+
+pub function_known : (nodes : Nodes) (count : ℕ) (structs : Table ℕ) (fields : List (Table CField)) (texts : Table (Unit {0})) (functions : Table Head) → TellsFront nodes count structs fields texts functions → (n : ℕ) → is_some (named functions.entries (bytes_at functions.names n)) ≡ is_some (function_named (functions_of (take count (unit_tree nodes))) (bytes_at nodes.names n))
+function_known nodes count structs fields texts functions h n = rw h.functions.names (found_alike (IsHead nodes) (named functions.entries (bytes_at nodes.names n)) (function_named (functions_of (take count (unit_tree nodes))) (bytes_at nodes.names n)) (h.functions.tells_all (bytes_at nodes.names n)))
 
 -- Where a struct isn't found, no field is; where it is, its table tells.
-pub no_struct : (nodes : Nodes) (fields : List (List (List ℕ × CField))) (x : Option StructDecl) (q : List ℕ) → Finds (IsStruct nodes fields) None x → Finds (IsField nodes) None (option_and_then (λ it. field_named it.fields q) x)
+pub no_struct : (nodes : Nodes) (fields : List (Table CField)) (x : Option StructDecl) (q : List ℕ) → Finds (IsStruct nodes fields) None x → Finds (IsField nodes) None (option_and_then (λ it. field_named it.fields q) x)
 no_struct nodes fields x q h = rw h refl
 
-pub field_listed : (nodes : Nodes) (fields : List (List (List ℕ × CField))) (k : ℕ) (x : Option StructDecl) (table : List (List ℕ × CField)) (q : List ℕ) → Finds (IsStruct nodes fields) (Some k) x → slice_get fields k ≡ Some table → Finds (IsField nodes) (named table q) (option_and_then (λ it. field_named it.fields q) x)
+pub field_listed : (nodes : Nodes) (fields : List (Table CField)) (k : ℕ) (x : Option StructDecl) (table : Table CField) (q : List ℕ) → Finds (IsStruct nodes fields) (Some k) x → slice_get fields k ≡ Some table → Finds (IsField nodes) (named table.entries q) (option_and_then (λ it. field_named it.fields q) x)
 field_listed nodes fields k x table q h is =
     let same : table ≡ h.2.fields = (let p = h.2.stands in cc (is, p)) in
     rw (h.1, same) (h.2.tells q)
 
-pub struct_at : (nodes : Nodes) (count : ℕ) (structs : List (List ℕ × ℕ)) (fields : List (List (List ℕ × CField))) (texts : List (List ℕ × Unit {0})) (functions : List (List ℕ × Head)) → TellsFront nodes count structs fields texts functions → (q : List ℕ) (r o : Option ℕ) → r ≡ named structs q → r ≡ o → Finds (IsStruct nodes fields) o (struct_named (structs_of (take count (unit_tree nodes))) q)
-struct_at nodes count structs fields texts functions h q r o is some = subst (λ (x : Option ℕ). Finds (IsStruct nodes fields) x (struct_named (structs_of (take count (unit_tree nodes))) q)) (sym is ∙ some) (h.structs q)
+pub struct_at : (nodes : Nodes) (count : ℕ) (structs : Table ℕ) (fields : List (Table CField)) (texts : Table (Unit {0})) (functions : Table Head) → TellsFront nodes count structs fields texts functions → (q : List ℕ) (r o : Option ℕ) → r ≡ named structs.entries q → r ≡ o → Finds (IsStruct nodes fields) o (struct_named (structs_of (take count (unit_tree nodes))) q)
+struct_at nodes count structs fields texts functions h q r o is some = subst (λ (x : Option ℕ). Finds (IsStruct nodes fields) x (struct_named (structs_of (take count (unit_tree nodes))) q)) (sym is ∙ some) (h.structs.tells_all q)
 
-pub index_within : (nodes : Nodes) (fields : List (List (List ℕ × CField))) (k : ℕ) (x : Option StructDecl) → Finds (IsStruct nodes fields) (Some k) x → k < length fields
+pub index_within : (nodes : Nodes) (fields : List (Table CField)) (k : ℕ) (x : Option StructDecl) → Finds (IsStruct nodes fields) (Some k) x → k < length fields
 index_within nodes fields k x h = slice_get_within fields k h.2.fields h.2.stands
+
+pub field_names : (nodes : Nodes) (fields : List (Table CField)) (k : ℕ) (x : Option StructDecl) (table : Table CField) → Finds (IsStruct nodes fields) (Some k) x → slice_get fields k ≡ Some table → table.names ≡ nodes.names
+field_names nodes fields k x table h is =
+    let same : table ≡ h.2.fields = (let p = h.2.stands in cc (is, p)) in
+    ap (λ (t : Table CField). t.names) same ∙ h.2.names
 
 -- Each item is a struct, a string or a function.
 is_some_find : {X : Type 0} (p : X → Bool) (x : X) (xs : List X) → is_some (find p (x ∷ xs)) ≡ (p x || is_some (find p xs))

@@ -22,8 +22,8 @@ use Rattle.c_text.specs.CFits.{HasType, HasFields, HasParams, FitsItem}
 use Rattle.c_text.proofs.Parts.{no_field, fields_here}
 use Rattle.c_meaning.specs.CTypes.{StructDecl, Function, structs_of, texts_of, functions_of, is_expression}
 use Rattle.c_form_exprs.specs.declared.front.Head.{Head}
-use Rattle.c_form_exprs.specs.Tables.{named}
-use Rattle.c_form_exprs.specs.Front.{Tells, Finds, IsText, IsField, IsStruct, IsHead, IsNextFunction, TellsFront}
+use Rattle.c_form_exprs.specs.Tables.{Table, named}
+use Rattle.c_form_exprs.specs.Front.{Tells, TellsOf, Finds, IsText, IsField, IsStruct, IsHead, IsNextFunction, TellsFront}
 use Rattle.c_form_exprs.proofs.FrontLemmas.{bytes_eq-swap}
 
 pub named_end : {V : Type 0} (es : List (List ℕ × V)) (n : List ℕ) (v : V) (q : List ℕ) → named (es ++ (n, v) ∷ []) q ≡ option_or (named es q) (if bytes_eq q n then Some v else None)
@@ -76,6 +76,13 @@ pub tells_grow : {V X : Type 0} (tells : V → X → Type 0) (name : X → List 
 tells_grow tells name es new xs n v x true h is t f g = rw g (grown_fresh tells name es xs n v x h is t)
 tells_grow tells name es new xs n v x false h is t f g = rw g (grown_taken tells name es xs n x h is f)
 
+-- A table of the unit's names grows by one more.
+pub tells_more : {V X : Type 0} (nodes : Nodes) (tells : V → X → Type 0) (name : X → List ℕ) (old new : Table V) (xs : List X) (n : List ℕ) (v : V) (x : X) (fresh : Bool) → TellsOf nodes tells name old xs → name x ≡ n → tells v x → new.names ≡ old.names → fresh ≡ is_none (named old.entries n) → new.entries ≡ (if fresh then old.entries ++ (n, v) ∷ [] else old.entries) → TellsOf nodes tells name new (xs ++ x ∷ [])
+tells_more nodes tells name old new xs n v x fresh h is t same f g = record {
+  names = same ∙ h.names;
+  tells_all = tells_grow tells name old.entries new.entries xs n v x fresh h.tells_all is t f g;
+}
+
 pub structs_append : (xs ys : List ItemTree) → structs_of (xs ++ ys) ≡ structs_of xs ++ structs_of ys
 structs_append [] ys = refl
 structs_append (struct_item fields name ∷ xs) ys = ap (λ zs. record { fields = fields; name = name } ∷ zs) (structs_append xs ys)
@@ -107,8 +114,8 @@ fields_grow nodes fs i old new fresh within has h f g =
     subst (Tells (IsField nodes) (λ f. f.name) new) (sym more) (tells_grow (IsField nodes) (λ f. f.name) old new (map (field_tree nodes.names) (take i fs)) (bytes_at nodes.names x.name.0) x (field_tree nodes.names x) fresh h refl (record { same = refl; has = fields_here nodes fs i within has }) f g)
 
 -- The tables of fields stay where they are when one is added.
-struct_stays : (nodes : Nodes) (tables : List (List (List ℕ × CField))) (more : List (List ℕ × CField)) (k : ℕ) (s : StructDecl) → IsStruct nodes tables k s → IsStruct nodes (tables ++ more ∷ []) k s
-struct_stays nodes tables more k s h = record { fields = h.fields; stands = slice_get-front tables (more ∷ []) k (slice_get_within tables k h.fields h.stands) ∙ h.stands; tells = h.tells }
+struct_stays : (nodes : Nodes) (tables : List (Table CField)) (more : Table CField) (k : ℕ) (s : StructDecl) → IsStruct nodes tables k s → IsStruct nodes (tables ++ more ∷ []) k s
+struct_stays nodes tables more k s h = record { fields = h.fields; stands = slice_get-front tables (more ∷ []) k (slice_get_within tables k h.fields h.stands) ∙ h.stands; names = h.names; tells = h.tells }
 
 pub finds_more : {V X : Type 0} (P Q : V → X → Type 0) → ((v : V) (x : X) → P v x → Q v x) → (o : Option V) (p : Option X) → Finds P o p → Finds Q o p
 finds_more P Q more None p h = h
@@ -118,58 +125,61 @@ pub tree_length : (nodes : Nodes) → length (unit_tree nodes) ≡ length nodes.
 unfolding unit_tree
 tree_length nodes = length-map nodes.items (made_item nodes)
 
-module _ (nodes : Nodes) (count : ℕ) (structs : List (List ℕ × ℕ)) (fields : List (List (List ℕ × CField))) (texts : List (List ℕ × Unit {0})) (functions : List (List ℕ × Head)) (h : TellsFront nodes count structs fields texts functions) where
+module _ (nodes : Nodes) (count : ℕ) (structs : Table ℕ) (fields : List (Table CField)) (texts : Table (Unit {0})) (functions : Table Head) (h : TellsFront nodes count structs fields texts functions) where
   next_within : (x : ItemTree) → slice_get (unit_tree nodes) count ≡ Some x → count + 1 ≤ length nodes.items
   next_within x is = let w : count < length (unit_tree nodes) = slice_get_within (unit_tree nodes) count x is in let l : length (unit_tree nodes) ≡ length nodes.items = tree_length nodes in omega (arith, w, l)
 
   -- A further table of fields that no struct has yet.
-  pub fields_more : (more : List (List ℕ × CField)) → TellsFront nodes count structs (fields ++ more ∷ []) texts functions
+  pub fields_more : (more : Table CField) → TellsFront nodes count structs (fields ++ more ∷ []) texts functions
   fields_more more = record {
     within = h.within;
-    structs = λ q. finds_more (IsStruct nodes fields) (IsStruct nodes (fields ++ more ∷ [])) (struct_stays nodes fields more) (named structs q) (find (λ s. bytes_eq s.name q) (structs_of (take count (unit_tree nodes)))) (h.structs q);
+    structs = record {
+      names = h.structs.names;
+      tells_all = λ q. finds_more (IsStruct nodes fields) (IsStruct nodes (fields ++ more ∷ [])) (struct_stays nodes fields more) (named structs.entries q) (find (λ s. bytes_eq s.name q) (structs_of (take count (unit_tree nodes)))) (h.structs.tells_all q);
+    };
     texts = h.texts;
     functions = h.functions;
   }
 
-  pub after_struct : (trees : List FieldTree) (name : List ℕ) (k : ℕ) (fresh : Bool) (new : List (List ℕ × ℕ)) → slice_get (unit_tree nodes) count ≡ Some (struct_item trees name) → IsStruct nodes fields k (record { fields = trees; name = name }) → fresh ≡ is_none (named structs name) → new ≡ (if fresh then structs ++ (name, k) ∷ [] else structs) → TellsFront nodes (count + 1) new fields texts functions
-  after_struct trees name k fresh new is tells f g =
+  pub after_struct : (trees : List FieldTree) (name : List ℕ) (k : ℕ) (fresh : Bool) (new : Table ℕ) → slice_get (unit_tree nodes) count ≡ Some (struct_item trees name) → IsStruct nodes fields k (record { fields = trees; name = name }) → new.names ≡ structs.names → fresh ≡ is_none (named structs.entries name) → new.entries ≡ (if fresh then structs.entries ++ (name, k) ∷ [] else structs.entries) → TellsFront nodes (count + 1) new fields texts functions
+  after_struct trees name k fresh new is tells same f g =
       let one : List ItemTree = struct_item trees name ∷ [] in
       let more : take (count + 1) (unit_tree nodes) ≡ take count (unit_tree nodes) ++ one = take_one_more (unit_tree nodes) count (struct_item trees name) is in
       record {
         within = next_within (struct_item trees name) is;
-        structs = subst (Tells (IsStruct nodes fields) (λ s. s.name) new) (sym (ap structs_of more ∙ structs_append (take count (unit_tree nodes)) one)) (tells_grow (IsStruct nodes fields) (λ s. s.name) structs new (structs_of (take count (unit_tree nodes))) name k (record { fields = trees; name = name }) fresh h.structs refl tells f g);
-        texts = subst (Tells IsText (λ t. t.name) texts) (sym (ap texts_of more ∙ (texts_append (take count (unit_tree nodes)) one ∙ append-nil (texts_of (take count (unit_tree nodes)))))) h.texts;
-        functions = subst (Tells (IsHead nodes) (λ f. f.name) functions) (sym (ap functions_of more ∙ (functions_append (take count (unit_tree nodes)) one ∙ append-nil (functions_of (take count (unit_tree nodes)))))) h.functions;
+        structs = subst (TellsOf nodes (IsStruct nodes fields) (λ s. s.name) new) (sym (ap structs_of more ∙ structs_append (take count (unit_tree nodes)) one)) (tells_more nodes (IsStruct nodes fields) (λ s. s.name) structs new (structs_of (take count (unit_tree nodes))) name k (record { fields = trees; name = name }) fresh h.structs refl tells same f g);
+        texts = subst (TellsOf nodes IsText (λ t. t.name) texts) (sym (ap texts_of more ∙ (texts_append (take count (unit_tree nodes)) one ∙ append-nil (texts_of (take count (unit_tree nodes)))))) h.texts;
+        functions = subst (TellsOf nodes (IsHead nodes) (λ f. f.name) functions) (sym (ap functions_of more ∙ (functions_append (take count (unit_tree nodes)) one ∙ append-nil (functions_of (take count (unit_tree nodes)))))) h.functions;
       }
 
-  pub after_text : (name bytes : List ℕ) (fresh : Bool) (new : List (List ℕ × Unit {0})) → slice_get (unit_tree nodes) count ≡ Some (text_item name bytes) → fresh ≡ is_none (named texts name) → new ≡ (if fresh then texts ++ (name, tt) ∷ [] else texts) → TellsFront nodes (count + 1) structs fields new functions
-  after_text name bytes fresh new is f g =
+  pub after_text : (name bytes : List ℕ) (fresh : Bool) (new : Table (Unit {0})) → slice_get (unit_tree nodes) count ≡ Some (text_item name bytes) → new.names ≡ texts.names → fresh ≡ is_none (named texts.entries name) → new.entries ≡ (if fresh then texts.entries ++ (name, tt) ∷ [] else texts.entries) → TellsFront nodes (count + 1) structs fields new functions
+  after_text name bytes fresh new is same f g =
       let one : List ItemTree = text_item name bytes ∷ [] in
       let more : take (count + 1) (unit_tree nodes) ≡ take count (unit_tree nodes) ++ one = take_one_more (unit_tree nodes) count (text_item name bytes) is in
       record {
         within = next_within (text_item name bytes) is;
-        structs = subst (Tells (IsStruct nodes fields) (λ s. s.name) structs) (sym (ap structs_of more ∙ (structs_append (take count (unit_tree nodes)) one ∙ append-nil (structs_of (take count (unit_tree nodes)))))) h.structs;
-        texts = subst (Tells IsText (λ t. t.name) new) (sym (ap texts_of more ∙ texts_append (take count (unit_tree nodes)) one)) (tells_grow IsText (λ t. t.name) texts new (texts_of (take count (unit_tree nodes))) name tt (record { name = name; bytes = bytes }) fresh h.texts refl tt f g);
-        functions = subst (Tells (IsHead nodes) (λ f. f.name) functions) (sym (ap functions_of more ∙ (functions_append (take count (unit_tree nodes)) one ∙ append-nil (functions_of (take count (unit_tree nodes)))))) h.functions;
+        structs = subst (TellsOf nodes (IsStruct nodes fields) (λ s. s.name) structs) (sym (ap structs_of more ∙ (structs_append (take count (unit_tree nodes)) one ∙ append-nil (structs_of (take count (unit_tree nodes)))))) h.structs;
+        texts = subst (TellsOf nodes IsText (λ t. t.name) new) (sym (ap texts_of more ∙ texts_append (take count (unit_tree nodes)) one)) (tells_more nodes IsText (λ t. t.name) texts new (texts_of (take count (unit_tree nodes))) name tt (record { name = name; bytes = bytes }) fresh h.texts refl tt same f g);
+        functions = subst (TellsOf nodes (IsHead nodes) (λ f. f.name) functions) (sym (ap functions_of more ∙ (functions_append (take count (unit_tree nodes)) one ∙ append-nil (functions_of (take count (unit_tree nodes)))))) h.functions;
       }
 
-  pub after_function : (it : Function) (name : List ℕ) (head : Head) (fresh : Bool) (new : List (List ℕ × Head)) → it.name ≡ name → slice_get (unit_tree nodes) count ≡ Some (function_item it.linkage it.result_type it.name it.params it.locals it.body) → IsHead nodes head it → fresh ≡ is_none (named functions name) → new ≡ (if fresh then functions ++ (name, head) ∷ [] else functions) → TellsFront nodes (count + 1) structs fields texts new
-  after_function it name head fresh new spelt is tells f g =
+  pub after_function : (it : Function) (name : List ℕ) (head : Head) (fresh : Bool) (new : Table Head) → it.name ≡ name → slice_get (unit_tree nodes) count ≡ Some (function_item it.linkage it.result_type it.name it.params it.locals it.body) → IsHead nodes head it → new.names ≡ functions.names → fresh ≡ is_none (named functions.entries name) → new.entries ≡ (if fresh then functions.entries ++ (name, head) ∷ [] else functions.entries) → TellsFront nodes (count + 1) structs fields texts new
+  after_function it name head fresh new spelt is tells same f g =
       let one : List ItemTree = function_item it.linkage it.result_type it.name it.params it.locals it.body ∷ [] in
       let more : take (count + 1) (unit_tree nodes) ≡ take count (unit_tree nodes) ++ one = take_one_more (unit_tree nodes) count (function_item it.linkage it.result_type it.name it.params it.locals it.body) is in
       record {
         within = next_within (function_item it.linkage it.result_type it.name it.params it.locals it.body) is;
-        structs = subst (Tells (IsStruct nodes fields) (λ s. s.name) structs) (sym (ap structs_of more ∙ (structs_append (take count (unit_tree nodes)) one ∙ append-nil (structs_of (take count (unit_tree nodes)))))) h.structs;
-        texts = subst (Tells IsText (λ t. t.name) texts) (sym (ap texts_of more ∙ (texts_append (take count (unit_tree nodes)) one ∙ append-nil (texts_of (take count (unit_tree nodes)))))) h.texts;
-        functions = subst (Tells (IsHead nodes) (λ f. f.name) new) (sym (ap functions_of more ∙ functions_append (take count (unit_tree nodes)) one)) (tells_grow (IsHead nodes) (λ f. f.name) functions new (functions_of (take count (unit_tree nodes))) name head it fresh h.functions spelt tells f g);
+        structs = subst (TellsOf nodes (IsStruct nodes fields) (λ s. s.name) structs) (sym (ap structs_of more ∙ (structs_append (take count (unit_tree nodes)) one ∙ append-nil (structs_of (take count (unit_tree nodes)))))) h.structs;
+        texts = subst (TellsOf nodes IsText (λ t. t.name) texts) (sym (ap texts_of more ∙ (texts_append (take count (unit_tree nodes)) one ∙ append-nil (texts_of (take count (unit_tree nodes)))))) h.texts;
+        functions = subst (TellsOf nodes (IsHead nodes) (λ f. f.name) new) (sym (ap functions_of more ∙ functions_append (take count (unit_tree nodes)) one)) (tells_more nodes (IsHead nodes) (λ f. f.name) functions new (functions_of (take count (unit_tree nodes))) name head it fresh h.functions spelt tells same f g);
       }
 
 -- A struct whose table of fields is the last one.
-pub after_new_struct : (nodes : Nodes) (count : ℕ) (structs : List (List ℕ × ℕ)) (fields : List (List (List ℕ × CField))) (texts : List (List ℕ × Unit {0})) (functions : List (List ℕ × Head)) → TellsFront nodes count structs fields texts functions → (trees : List FieldTree) (name : List ℕ) (table : List (List ℕ × CField)) (tables : List (List (List ℕ × CField))) (k : ℕ) (fresh : Bool) (new : List (List ℕ × ℕ)) → slice_get (unit_tree nodes) count ≡ Some (struct_item trees name) → Tells (IsField nodes) (λ f. f.name) table trees → tables ≡ fields ++ table ∷ [] → k ≡ length fields → fresh ≡ is_none (named structs name) → new ≡ (if fresh then structs ++ (name, k) ∷ [] else structs) → TellsFront nodes (count + 1) new tables texts functions
-after_new_struct nodes count structs fields texts functions h trees name table tables k fresh new is tells more at f g =
-    let known : TellsFront nodes count structs tables texts functions = subst (λ (xs : List (List (List ℕ × CField))). TellsFront nodes count structs xs texts functions) (sym more) (fields_more nodes count structs fields texts functions h table) in
-    let stands : slice_get tables k ≡ Some table = ap (λ (xs : List (List (List ℕ × CField))). slice_get xs k) more ∙ (ap (slice_get (fields ++ table ∷ [])) at ∙ slice_get-seam fields table []) in
-    after_struct nodes count structs tables texts functions known trees name k fresh new is (record { fields = table; stands = stands; tells = tells }) f g
+pub after_new_struct : (nodes : Nodes) (count : ℕ) (structs : Table ℕ) (fields : List (Table CField)) (texts : Table (Unit {0})) (functions : Table Head) → TellsFront nodes count structs fields texts functions → (trees : List FieldTree) (name : List ℕ) (table : Table CField) (tables : List (Table CField)) (k : ℕ) (fresh : Bool) (new : Table ℕ) → slice_get (unit_tree nodes) count ≡ Some (struct_item trees name) → table.names ≡ nodes.names → Tells (IsField nodes) (λ f. f.name) table.entries trees → tables ≡ fields ++ table ∷ [] → k ≡ length fields → new.names ≡ structs.names → fresh ≡ is_none (named structs.entries name) → new.entries ≡ (if fresh then structs.entries ++ (name, k) ∷ [] else structs.entries) → TellsFront nodes (count + 1) new tables texts functions
+after_new_struct nodes count structs fields texts functions h trees name table tables k fresh new is of_unit tells more at same f g =
+    let known : TellsFront nodes count structs tables texts functions = subst (λ (xs : List (Table CField)). TellsFront nodes count structs xs texts functions) (sym more) (fields_more nodes count structs fields texts functions h table) in
+    let stands : slice_get tables k ≡ Some table = ap (λ (xs : List (Table CField)). slice_get xs k) more ∙ (ap (slice_get (fields ++ table ∷ [])) at ∙ slice_get-seam fields table []) in
+    after_struct nodes count structs tables texts functions known trees name k fresh new is (record { fields = table; stands = stands; names = of_unit; tells = tells }) same f g
 
 -- The next item, where it is a function.
 pub next_function : (nodes : Nodes) (count : ℕ) (linkage : Linkage) (t : Option CType) (name : CNameId) (params : List CParam) (locals : List CLocal) (body : CStmtId) (head : Head) → slice_get (unit_tree nodes) count ≡ Some (made_item nodes (item.Function linkage t name params locals body)) → FitsItem nodes (item.Function linkage t name params locals body) → head.params.now ≡ params → head.result ≡ t → head.in_expressions ≡ is_expression (record { linkage = linkage; result_type = option_map (type_in nodes.names) t; name = bytes_at nodes.names name.0; params = map (param_tree nodes.names) params; locals = map (local_tree nodes.names (expr_of nodes)) locals; body = code_of nodes body.0 }) → IsNextFunction (record { nodes = nodes; count = count }) (bytes_at nodes.names name.0) head

@@ -14,12 +14,19 @@ use Rattle.std.proofs.lemmas.Option.{slice_get_within, slice_get-map}
 use Rattle.std.proofs.lemmas.Slice.Eq.{bytes_eq-Decides}
 use Rattle.interner.specs.Interning.{digest}
 use Rattle.c_text.proofs.Arena.{slice_get-front, slice_get-seam, slice_get-some}
-use Rattle.c_form_exprs.specs.Tables.{named, name_at, found, FindsPlaces}
+use Rattle.c_text.specs.declared.ids.CNameId.{CNameId}
+use Rattle.c_text.specs.CNodes.{bytes_at}
+use Rattle.c_text.specs.CUnit.{AreDistinct}
+use Rattle.c_text.proofs.Names.{same_names}
+use Rattle.c_form_exprs.specs.Tables.{named, name_at, found, FindsPlaces, TellsPlaces}
 use Rattle.c_form_exprs.proofs.FrontLemmas.{bytes_eq-swap}
 
 -- The entries with the bytes of their names.
 abbrev pub seen : {V : Type 0} → Bor (List ℕ) × V → List ℕ × V
 seen entry = (entry.0.now, entry.1)
+
+abbrev pub spelled : {V : Type 0} → List (List ℕ) → CNameId × V → List ℕ × V
+spelled names entry = (bytes_at names entry.0.0, entry.1)
 
 -- Places in a list that stands for another one.
 first_in : {A B : Type 0} (p : B → Bool) (f : A → B) (xs : List A) → position_or_len p (map f xs) ≡ position_or_len (λ x. p (f x)) xs
@@ -89,15 +96,15 @@ stands_by : {V : Type 0} (es : List (List ℕ × V)) (name : List ℕ) (o : Opti
 stands_by es name o is = subst (Stands es name) (sym is) (stands es name)
 
 -- A name with a place, and one without.
-pub place_within : {V : Type 0} (es : List (Bor (List ℕ) × V)) (name : List ℕ) (n : ℕ) → Some n ≡ position (λ (entry : List ℕ × V). bytes_eq entry.0 name) (map seen es) → n < length es
-place_within es name n is =
-    let there = stands_by (map seen es) name (Some n) is in
-    subst (λ (m : ℕ). n < m) (length-map es seen) (slice_get_within (map seen es) n there.0 there.1)
+pub place_within : {E V : Type 0} (f : E → List ℕ × V) (es : List E) (name : List ℕ) (n : ℕ) → Some n ≡ position (λ (entry : List ℕ × V). bytes_eq entry.0 name) (map f es) → n < length es
+place_within f es name n is =
+    let there = stands_by (map f es) name (Some n) is in
+    subst (λ (m : ℕ). n < m) (length-map es f) (slice_get_within (map f es) n there.0 there.1)
 
-pub place_declares : {V : Type 0} (es : List (Bor (List ℕ) × V)) (name : List ℕ) (n : ℕ) (entry : Bor (List ℕ) × V) → Some n ≡ position (λ (entry : List ℕ × V). bytes_eq entry.0 name) (map seen es) → slice_get es n ≡ Some entry → Some entry.1 ≡ named (map seen es) name
-place_declares es name n entry is at =
-    let there = stands_by (map seen es) name (Some n) is in
-    let same : Some (seen entry) ≡ Some there.0 = sym (slice_get-map seen es n ∙ ap (option_map seen) at) ∙ there.1 in
+pub place_declares : {E V : Type 0} (f : E → List ℕ × V) (es : List E) (name : List ℕ) (n : ℕ) (entry : E) → Some n ≡ position (λ (entry : List ℕ × V). bytes_eq entry.0 name) (map f es) → slice_get es n ≡ Some entry → Some (f entry).1 ≡ named (map f es) name
+place_declares f es name n entry is at =
+    let there = stands_by (map f es) name (Some n) is in
+    let same : Some (f entry) ≡ Some there.0 = sym (slice_get-map f es n ∙ ap (option_map f) at) ∙ there.1 in
     ap (option_map (λ e. e.1)) same ∙ sym there.2
 
 pub no_place_declares : {V : Type 0} (es : List (List ℕ × V)) (name : List ℕ) → None ≡ position (λ entry. bytes_eq entry.0 name) es → None ≡ named es name
@@ -220,5 +227,17 @@ ties m n f = elim (cases_Bool (is_eq (nat_cmp m n))) [
 pub other_numbers : (old new : BTreeMap ℕ ℕ) (query made : ℕ) (w : Option ℕ) → query ≡ made → UpdatesBy nat_cmp (nat_cmp query) old new w → (other : ℕ) → nat_eq made other ≡ false → get_by (nat_cmp other) new ≡ get_by (nat_cmp other) old
 other_numbers old new query made w same updates other f = updates.2 other (ties query other (ap (λ (n : ℕ). nat_eq n other) same ∙ f))
 
-pub entries_joined : {V : Type 0} (es later : List (Bor (List ℕ) × V)) (name : Bor (List ℕ)) (v : V) → later ≡ es ++ (name, v) ∷ [] → map seen later ≡ map seen es ++ (name.now, v) ∷ []
-entries_joined es later name v is = ap (map seen) is ∙ map-append seen es ((name, v) ∷ [])
+pub entries_joined : {E V : Type 0} (f : E → List ℕ × V) (es later : List E) (entry : E) → later ≡ es ++ entry ∷ [] → map f later ≡ map f es ++ f entry ∷ []
+entries_joined f es later entry is = ap (map f) is ∙ map-append f es (entry ∷ [])
+
+-- A name of a unit joins by its number.
+pub number_joined : {V : Type 0} (old new : ℕ → Option ℕ) (names : List (List ℕ)) (es later : List (List ℕ × V)) (n : ℕ) (v : V)
+    → AreDistinct names → n < length names → TellsPlaces old names es → position (λ (entry : List ℕ × V). bytes_eq entry.0 (bytes_at names n)) es ≡ None
+    → new n ≡ Some (length es) → ((m : ℕ) → nat_eq n m ≡ false → new m ≡ old m)
+    → later ≡ es ++ (bytes_at names n, v) ∷ [] → TellsPlaces new names later
+number_joined {V} old new names es later n v distinct has h free here others joined = subst (TellsPlaces new names) (sym joined) (λ m within. elim (cases_Bool (nat_eq n m)) [
+  | inl y ↦ (let alike : bytes_eq (bytes_at names n) (bytes_at names m) ≡ true = sym (same_names names distinct n m has within) ∙ y in
+      let absent : position (λ (entry : List ℕ × V). bytes_eq entry.0 (bytes_at names m)) es ≡ None = subst (λ (k : ℕ). position (λ (entry : List ℕ × V). bytes_eq entry.0 (bytes_at names k)) es ≡ None) (eqb-true n m y) free in
+      ap new (sym (eqb-true n m y)) ∙ (here ∙ sym (place_last es (bytes_at names n) v (bytes_at names m) alike absent)))
+  | inr f ↦ others m f ∙ (h m within ∙ sym (places_end es (bytes_at names n) v (bytes_at names m) (sym (same_names names distinct n m has within) ∙ f)))
+])

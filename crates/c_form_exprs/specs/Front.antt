@@ -8,7 +8,7 @@ use Rattle.c_text.specs.CNodes.{Nodes, unit_tree, type_in, field_tree, param_tre
 use Rattle.c_text.specs.CFits.{HasType, HasField, HasParams}
 use Rattle.c_meaning.specs.CTypes as by_name
 use Rattle.c_meaning.specs.CTypes.{StructDecl, TextDecl, Function, CScope, structs_of, texts_of, functions_of, scope_of}
-use Rattle.c_form_exprs.specs.Tables.{named}
+use Rattle.c_form_exprs.specs.Tables.{Table, named}
 use Rattle.c_form_exprs.specs.declared.front.Head.{Head}
 
 -- The unit, and the number of its first items that are known.
@@ -62,10 +62,11 @@ pub record IsField (nodes : Nodes) (field : CField) (tree : FieldTree) : Type 0 
   pub has : HasField nodes field
 
 -- A struct with the number of the table of its fields.
-pub record IsStruct (nodes : Nodes) (tables : List (List (List ℕ × CField))) (k : ℕ) (struct : StructDecl) : Type 0 where
-  pub fields : List (List ℕ × CField)
+pub record IsStruct (nodes : Nodes) (tables : List (Table CField)) (k : ℕ) (struct : StructDecl) : Type 0 where
+  pub fields : Table CField
   pub stands : slice_get tables k ≡ Some fields
-  pub tells : Tells (IsField nodes) (λ f. f.name) fields struct.fields
+  pub names : fields.names ≡ nodes.names
+  pub tells : Tells (IsField nodes) (λ f. f.name) fields.entries struct.fields
 
 -- What a call asks of a function.
 pub record IsHead (nodes : Nodes) (head : Head) (f : Function) : Type 0 where
@@ -75,17 +76,23 @@ pub record IsHead (nodes : Nodes) (head : Head) (f : Function) : Type 0 where
   pub has_params : HasParams nodes head.params.now
   pub has_result : IfSome head.result (HasType nodes)
 
+-- A table is one of the names of the unit, and tells of these declarations.
+pub record TellsOf {V X : Type 0} (nodes : Nodes) (tells : V → X → Type 0) (name : X → List ℕ) (table : Table V) (xs : List X) : Type 0 where
+  pub names : table.names ≡ nodes.names
+  pub tells_all : Tells tells name table.entries xs
+
 -- The tables tell of the first items of the unit.
-pub record TellsFront (nodes : Nodes) (count : ℕ) (by_struct : List (List ℕ × ℕ)) (by_field : List (List (List ℕ × CField))) (by_text : List (List ℕ × Unit {0})) (by_function : List (List ℕ × Head)) : Type 0 where
+pub record TellsFront (nodes : Nodes) (count : ℕ) (by_struct : Table ℕ) (by_field : List (Table CField)) (by_text : Table (Unit {0})) (by_function : Table Head) : Type 0 where
   pub within : count ≤ length nodes.items
-  pub structs : Tells (IsStruct nodes by_field) (λ s. s.name) by_struct (structs_of (take count (unit_tree nodes)))
-  pub texts : Tells IsText (λ t. t.name) by_text (texts_of (take count (unit_tree nodes)))
-  pub functions : Tells (IsHead nodes) (λ f. f.name) by_function (functions_of (take count (unit_tree nodes)))
+  pub structs : TellsOf nodes (IsStruct nodes by_field) (λ s. s.name) by_struct (structs_of (take count (unit_tree nodes)))
+  pub texts : TellsOf nodes IsText (λ t. t.name) by_text (texts_of (take count (unit_tree nodes)))
+  pub functions : TellsOf nodes (IsHead nodes) (λ f. f.name) by_function (functions_of (take count (unit_tree nodes)))
 
 -- The table of names tells of the parameters and locals, in the unit of the front.
-pub record TellsNames (front : Front) (nodes : Nodes) (names : List (List ℕ × CType)) : Type 0 where
+pub record TellsNames (front : Front) (nodes : Nodes) (table : Table CType) : Type 0 where
   pub same : nodes ≡ front.nodes
-  pub listed : Lists (IsTyped front.nodes) (λ p. p.name) names (map (entry_param front.nodes.names) names)
+  pub names : table.names ≡ front.nodes.names
+  pub listed : Lists (IsTyped front.nodes) (λ p. p.name) table.entries (map (entry_param front.nodes.names) table.entries)
 
 -- The next item is a string, or a function, of this name.
 abbrev pub IsNextText : Front → List ℕ → Type 0

@@ -4,10 +4,21 @@ use Rattle.std.specs.Option.{option_map}
 use Rattle.std.specs.Str.{bytes_eq}
 use Rattle.std.specs.Map.{lookup}
 use Rattle.interner.specs.Interning.{digest}
+use Rattle.c_text.specs.CNodes.{bytes_at}
 
 -- What a name declares.
 abbrev pub named : {V : Type 0} → List (List ℕ × V) → List ℕ → Option V
 named table name = lookup (bytes_eq name) table
+
+-- A table of names of a unit: the unit's names, each at its number, and the names of the table with what they declare, in the
+-- order in which they were added.
+pub record Table (V : Type 0) : Type 0 where
+  pub names : List (List ℕ)
+  pub entries : List (List ℕ × V)
+
+-- What is kept of each name, by its number, is its place in a table.
+abbrev pub TellsPlaces : {V : Type 0} → (place : ℕ → Option ℕ) → (names : List (List ℕ)) → List (List ℕ × V) → Type 0
+TellsPlaces place names table = (n : ℕ) → n < length names → place n ≡ position (λ entry. bytes_eq entry.0 (bytes_at names n)) table
 
 -- The bytes of the name at a place.
 abbrev pub name_at : {V : Type 0} → List (List ℕ × V) → ℕ → List ℕ

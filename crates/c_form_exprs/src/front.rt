@@ -70,10 +70,10 @@ impl<'u> Front<'u> {
         Front {
             unit,
             count: 0,
-            structs: NameTable::new(alloc),
+            structs: NameTable::new(alloc, unit),
             fields: Vec::new(alloc),
-            texts: NameTable::new(alloc),
-            functions: NameTable::new(alloc),
+            texts: NameTable::new(alloc, unit),
+            functions: NameTable::new(alloc, unit),
             alloc,
         }
     }
@@ -86,49 +86,56 @@ impl<'u> Front<'u> {
     }
 
     /// Whether the name is that of a struct.
-    #[tactic(auto, using(crate::proofs::FrontLemmas::struct_listed))]
-    pub fn is_struct(&self, name: &[u8]) -> bool
-        ensures { result ≡ is_some (struct_named (structs_of (front_items self.now)) name.now) }
+    #[tactic(auto, using(crate::proofs::FrontLemmas::struct_listed, crate::proofs::FrontLemmas::in_structs))]
+    pub fn is_struct(&self, name: CNameId) -> bool
+        requires { HasName self.now.nodes name }
+        ensures { result ≡ is_some (struct_named (structs_of (front_items self.now)) (bytes_at self.now.nodes.names name.0)) }
     {
         self.structs.get(name).is_some()
     }
 
     /// Whether the name is that of a string.
-    #[tactic(auto, using(crate::proofs::FrontLemmas::text_listed))]
-    pub(crate) fn is_text(&self, name: &[u8]) -> bool
-        ensures { result ≡ is_some (find (λ it. bytes_eq it.name name.now) (texts_of (front_items self.now))) }
+    #[tactic(auto, using(crate::proofs::FrontLemmas::text_listed, crate::proofs::FrontLemmas::in_texts))]
+    pub(crate) fn is_text(&self, name: CNameId) -> bool
+        requires { HasName self.now.nodes name }
+        ensures { result ≡ is_some (find (λ it. bytes_eq it.name (bytes_at self.now.nodes.names name.0)) (texts_of (front_items self.now))) }
     {
         self.texts.get(name).is_some()
     }
 
     /// The function of this name.
-    #[tactic(auto, using(crate::proofs::FrontLemmas::function_listed))]
-    pub fn function(&self, name: &[u8]) -> Option<Head<'u>>
-        ensures { Finds (IsHead self.now.nodes) result (function_named (functions_of (front_items self.now)) name.now) }
+    #[tactic(auto, using(crate::proofs::FrontLemmas::function_listed, crate::proofs::FrontLemmas::in_functions))]
+    pub fn function(&self, name: CNameId) -> Option<Head<'u>>
+        requires { HasName self.now.nodes name }
+        ensures { Finds (IsHead self.now.nodes) result (function_named (functions_of (front_items self.now)) (bytes_at self.now.nodes.names name.0)) }
     {
         self.functions.get(name)
     }
 
     /// The field of this name in the struct of that name.
-    pub fn field(&self, of: &[u8], name: &[u8]) -> Option<CField>
-        ensures { Finds (IsField self.now.nodes) result (option_and_then (λ it. field_named it.fields name.now) (struct_named (structs_of (front_items self.now)) of.now)) }
+    pub fn field(&self, of: CNameId, name: CNameId) -> Option<CField>
+        requires of { HasName self.now.nodes of }
+        requires name { HasName self.now.nodes name }
+        ensures { Finds (IsField self.now.nodes) result (option_and_then (λ it. field_named it.fields (bytes_at self.now.nodes.names name.0)) (struct_named (structs_of (front_items self.now)) (bytes_at self.now.nodes.names of.0))) }
     {
         let k = self.structs.get(of)?;
         self.fields[k].get(name)
     }
 
     /// Whether the name is that of a function.
-    #[tactic(auto, using(crate::proofs::FrontLemmas::function_known))]
-    fn is_function(&self, name: &[u8]) -> bool
-        ensures { result ≡ is_some (function_named (functions_of (front_items self.now)) name.now) }
+    #[tactic(auto, using(crate::proofs::FrontLemmas::function_known, crate::proofs::FrontLemmas::in_functions))]
+    fn is_function(&self, name: CNameId) -> bool
+        requires { HasName self.now.nodes name }
+        ensures { result ≡ is_some (function_named (functions_of (front_items self.now)) (bytes_at self.now.nodes.names name.0)) }
     {
         self.functions.get(name).is_some()
     }
 
     /// Whether one of the items has this name.
     #[tactic(auto, using(crate::proofs::FrontLemmas::among_items))]
-    pub fn is_declared(&self, name: &[u8]) -> bool
-        ensures { result ≡ is_among (map item_name (front_items self.now)) name.now }
+    pub fn is_declared(&self, name: CNameId) -> bool
+        requires { HasName self.now.nodes name }
+        ensures { result ≡ is_among (map item_name (front_items self.now)) (bytes_at self.now.nodes.names name.0) }
     {
         if self.is_struct(name) {
             return true;
@@ -195,7 +202,7 @@ impl<'u> Front<'u> {
         let k = self.fields.len();
         let table = field_table(self.alloc, self.unit, fields)?;
         self.fields.push(table)?;
-        self.structs.add(self.unit.name(name), k)?;
+        self.structs.add(name, k)?;
         self.count = next;
         Ok(())
     }
@@ -208,7 +215,7 @@ impl<'u> Front<'u> {
         ensures { OnOk result (self.new ≡ record self.old { count = self.old.count + 1 }) }
     {
         let next = self.next();
-        self.texts.add(self.unit.name(name), ())?;
+        self.texts.add(name, ())?;
         self.count = next;
         Ok(())
     }
@@ -221,7 +228,7 @@ impl<'u> Front<'u> {
         ensures { OnOk result (self.new ≡ record self.old { count = self.old.count + 1 }) }
     {
         let next = self.next();
-        self.functions.add(self.unit.name(name), head)?;
+        self.functions.add(name, head)?;
         self.count = next;
         Ok(())
     }
@@ -234,11 +241,12 @@ fn field_table<'u>(
     fields: &'u [CField],
 ) -> Result<NameTable<'u, CField>, NoMemory>
     requires { HasFields unit.now fields.now }
-    ensures { IfOk result (λ table. Tells (IsField unit.now) (λ f. f.name) table (map (field_tree unit.now.names) fields.now)) }
+    ensures names { IfOk result (λ table. table.names ≡ unit.now.names) }
+    ensures tells { IfOk result (λ table. Tells (IsField unit.now) (λ f. f.name) table.entries (map (field_tree unit.now.names) fields.now)) }
 {
-    let mut table = NameTable::new(alloc);
+    let mut table = NameTable::new(alloc, unit);
     for field in fields {
-        table.add(unit.name(field.name), *field)?;
+        table.add(field.name, *field)?;
     }
     Ok(table)
 }

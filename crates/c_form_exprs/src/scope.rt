@@ -41,7 +41,7 @@ impl<'k, 'u> Model for CScope<'k, 'u> {
 
     ghost Value = { Within };
 
-    ghost view = { λ scope. record { front = scope.front.now; names = scope.names } };
+    ghost view = { λ scope. record { front = scope.front.now; names = scope.names.entries } };
 
     ghost invariant = { λ scope. TellsNames scope.front.now scope.unit.now scope.names };
 }
@@ -51,10 +51,11 @@ impl<'k, 'u> CScope<'k, 'u> {
     pub fn new(alloc: Global, front: &'k Front<'u>) -> CScope<'k, 'u>
         ensures { result ≡ record { front = front.now; names = [] } }
     {
+        let unit = front.unit();
         CScope {
             front,
-            unit: front.unit(),
-            names: NameTable::new(alloc),
+            unit,
+            names: NameTable::new(alloc, unit),
             alloc,
         }
     }
@@ -104,8 +105,7 @@ impl<'k, 'u> CScope<'k, 'u> {
         ensures fresh { IfOk result (λ fresh. fresh ≡ is_none (named self.old.names (bytes_at self.old.front.nodes.names name.0))) }
         ensures added { IfOk result (λ fresh. self.new ≡ (if fresh then record self.old { names = self.old.names ++ (bytes_at self.old.front.nodes.names name.0, ty) ∷ [] } else self.old)) }
     {
-        let spelt = self.spelt(name);
-        self.names.add(spelt, ty)
+        self.names.add(name, ty)
     }
 
     /// Whether a type is known: a struct is declared before it is named (6.2.1p7).
@@ -114,7 +114,7 @@ impl<'k, 'u> CScope<'k, 'u> {
         ensures { result ≡ is_known_in (scope_in self.now).structs (type_in self.now.front.nodes.names ty) }
     {
         match ty {
-            CType::StructPointer(name) => self.front.is_struct(self.spelt(name)),
+            CType::StructPointer(name) => self.front.is_struct(name),
             CType::Uint(_) | CType::Size | CType::Bool | CType::UintPointer(_) | CType::Text =>
                 true,
         }
@@ -125,7 +125,7 @@ impl<'k, 'u> CScope<'k, 'u> {
         requires { HasName self.now.front.nodes name }
         ensures { Finds (IsTyped self.now.front.nodes) result (find (λ it. bytes_eq it.name (bytes_at self.now.front.nodes.names name.0)) (scope_in self.now).names) }
     {
-        self.names.get(self.spelt(name))
+        self.names.get(name)
     }
 
     /// The place of a parameter or local among these.
@@ -133,7 +133,7 @@ impl<'k, 'u> CScope<'k, 'u> {
         requires { HasName self.now.front.nodes name }
         ensures { result ≡ position (λ it. bytes_eq it.name (bytes_at self.now.front.nodes.names name.0)) (scope_in self.now).names }
     {
-        self.names.place(self.spelt(name))
+        self.names.place(name)
     }
 
     /// What a name stands for: a parameter or local, else a string (6.5.1p2).
@@ -141,11 +141,10 @@ impl<'k, 'u> CScope<'k, 'u> {
         requires { HasName self.now.front.nodes name }
         ensures { TellsHeld self.now.front.nodes result (variable_held (scope_in self.now) (bytes_at self.now.front.nodes.names name.0)) }
     {
-        let spelt = self.spelt(name);
-        match self.names.get(spelt) {
+        match self.names.get(name) {
             Some(ty) => Some(Held::One(ty)),
             None => {
-                if self.front.is_text(spelt) {
+                if self.front.is_text(name) {
                     Some(Held::Characters)
                 } else {
                     None
@@ -159,7 +158,7 @@ impl<'k, 'u> CScope<'k, 'u> {
         requires { HasName self.now.front.nodes name }
         ensures { Finds (IsHead self.now.front.nodes) result (function_named (scope_in self.now).functions (bytes_at self.now.front.nodes.names name.0)) }
     {
-        self.front.function(self.spelt(name))
+        self.front.function(name)
     }
 
     /// What `of->field` stands for (6.5.2.3p4).
@@ -170,9 +169,7 @@ impl<'k, 'u> CScope<'k, 'u> {
     {
         match of {
             Some(ExprType::PointsTo(Target::Object(struct_name))) => {
-                let found = self
-                    .front
-                    .field(self.spelt(struct_name), self.spelt(field))?;
+                let found = self.front.field(struct_name, field)?;
                 Some(self.field_held(struct_name, found))
             }
             Some(ExprType::PointsTo(Target::Cell(_))) => None,

@@ -13,7 +13,7 @@ use crate::calls::is_library;
 use crate::labels::labels;
 use crate::lines::lines;
 use crate::statements::Frame;
-use c_form_exprs::{CScope, Front, NameTable};
+use c_form_exprs::{CScope, Front, SpellingTable};
 use c_text::{CExprId, CLocal, CNameId, CParam, CStmtId, CType, Linkage};
 use std::alloc::Global;
 use wf_text::NoMemory;
@@ -51,7 +51,7 @@ fn is_result(result_type: Option<CType>) -> bool
 /// Adds a parameter or local to the scope, where it can be.
 fn add<'k, 'u>(
     scope: &mut CScope<'k, 'u>,
-    items: &NameTable<'u, usize>,
+    items: &SpellingTable<'u, usize>,
     name: CNameId,
     kind: CType,
 ) -> Result<bool, NoMemory>
@@ -77,7 +77,7 @@ fn add<'k, 'u>(
 /// Adds the parameters to the scope, where they can be.
 fn add_params<'k, 'u>(
     scope: &mut CScope<'k, 'u>,
-    items: &NameTable<'u, usize>,
+    items: &SpellingTable<'u, usize>,
     params: &[CParam],
 ) -> Result<bool, NoMemory>
     requires { HasParams scope.old.front.nodes params.now }
@@ -115,7 +115,7 @@ fn is_initial(
 /// Adds a local to the scope, where it can be and its initial value is formed.
 fn add_local<'k, 'u>(
     scope: &mut CScope<'k, 'u>,
-    items: &NameTable<'u, usize>,
+    items: &SpellingTable<'u, usize>,
     local: CLocal,
 ) -> Result<bool, NoMemory>
     requires { HasLocal scope.old.front.nodes local }
@@ -133,7 +133,7 @@ fn add_local<'k, 'u>(
 /// Adds the locals to the scope, where they can be and their initial values are formed.
 fn add_locals<'k, 'u>(
     scope: &mut CScope<'k, 'u>,
-    items: &NameTable<'u, usize>,
+    items: &SpellingTable<'u, usize>,
     locals: &[CLocal],
 ) -> Result<bool, NoMemory>
     requires { HasLocals scope.old.front.nodes locals.now }
@@ -182,7 +182,7 @@ fn is_formed_body(
 pub fn is_formed_function<'u>(
     alloc: Global,
     front: &Front<'u>,
-    items: &NameTable<'u, usize>,
+    items: &SpellingTable<'u, usize>,
     parts: Parts<'u>,
 ) -> Result<bool, NoMemory>
     requires { HasParts front.now.nodes parts }

@@ -10,7 +10,7 @@ ghost use Rattle.c_form_stmts.specs.Labels.{Labelled, LabelledNext};
 ghost use Rattle.c_form_stmts.specs.Statements.{label_of, label_names, label_at};
 
 use crate::lines::Line;
-use c_form_exprs::NameTable;
+use c_form_exprs::SpellingTable;
 use c_text::{CNameId, CStmt, CStmtId, Unit};
 use std::alloc::Global;
 use wf_text::NoMemory;
@@ -29,7 +29,7 @@ fn label(unit: &Unit, s: CStmtId) -> Option<CNameId>
 
 /// Adds the label that a statement is, with the statement's number; whether it is new.
 fn add_label<'u>(
-    table: &mut NameTable<'u, usize>,
+    table: &mut SpellingTable<'u, usize>,
     unit: &'u Unit,
     at: Line,
     i: usize,
@@ -48,11 +48,11 @@ pub(crate) fn labels<'u>(
     alloc: Global,
     unit: &'u Unit,
     lines: &[Line],
-) -> Result<Option<NameTable<'u, usize>>, NoMemory>
+) -> Result<Option<SpellingTable<'u, usize>>, NoMemory>
     requires { HasLines unit.now lines.now }
     ensures { IfOk result (λ it. MatchOption it (all_distinct (label_names (map (line_in unit.now) lines.now)) ≡ false) (λ table. (all_distinct (label_names (map (line_in unit.now) lines.now)) ≡ true) × ((q : List ℕ) → named table q ≡ label_at 0 (map (line_in unit.now) lines.now) q))) }
 {
-    let mut table = NameTable::new(alloc);
+    let mut table = SpellingTable::new(alloc);
     let mut i = 0;
     while i < lines.len() {
         if !add_label(&mut table, unit, lines[i], i)? {

@@ -12,7 +12,7 @@ ghost use Rattle.c_form_stmts.specs.Statements.{checked_in, goes_to, formed_line
 
 use crate::cases::has_formed_cases;
 use crate::lines::Line;
-use c_form_exprs::{CScope, Held, NameTable};
+use c_form_exprs::{CScope, Held, SpellingTable};
 use c_text::{CExprId, CNameId, CStmt, CType, Linkage};
 use std::marker::Model;
 use wf_text::NoMemory;
@@ -26,7 +26,7 @@ pub(crate) struct Frame<'c, 'k, 'u> {
     /// The type of the result; none for `void`.
     pub result_type: Option<CType>,
     /// The labels with the numbers of their statements.
-    pub labels: NameTable<'u, usize>,
+    pub labels: SpellingTable<'u, usize>,
 }
 
 impl<'c, 'k, 'u> Drop for Frame<'c, 'k, 'u> {

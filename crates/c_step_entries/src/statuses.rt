@@ -10,7 +10,7 @@ ghost use Rattle.c_step_engine.specs.Statuses.{AreStatuses};
 ghost use Rattle.c_step_entries.specs.Known.{known_status};
 
 use c_form::Formed;
-use c_form_exprs::NameTable;
+use c_form_exprs::SpellingTable;
 use c_text::{CItem, CItemId, Unit};
 use std::alloc::Global;
 use wf_bufs::PublicSurface;
@@ -41,10 +41,10 @@ fn status(number: usize) -> Result<StatusId, NoMemory>
 fn status_table<'s>(
     alloc: Global,
     statuses: &'s [Vec<u8>],
-) -> Result<NameTable<'s, StatusId>, NoMemory>
+) -> Result<SpellingTable<'s, StatusId>, NoMemory>
     ensures { IfOk result (λ table. (text : List ℕ) → named table text ≡ known_status (map vec_items statuses.now) text) }
 {
-    let mut table = NameTable::new(alloc);
+    let mut table = SpellingTable::new(alloc);
     let mut i = 1;
     while i < statuses.len() {
         let id = status(number_at(statuses, i))?;
@@ -58,7 +58,7 @@ fn status_table<'s>(
 fn add_status(
     unit: &Unit,
     i: usize,
-    table: &NameTable<'_, StatusId>,
+    table: &SpellingTable<'_, StatusId>,
     statuses: &mut Vec<Option<StatusId>>,
 ) -> Result<(), NoMemory>
     requires { i < length unit.now.items }
@@ -78,7 +78,7 @@ fn add_status(
 fn statuses_by(
     alloc: Global,
     unit: &Unit,
-    table: &NameTable<'_, StatusId>,
+    table: &SpellingTable<'_, StatusId>,
 ) -> Result<Vec<Option<StatusId>>, NoMemory>
     ensures { IfOk result (λ it. it.items ≡ map (λ t. named table.now t.bytes) (texts_of (unit_tree unit.now))) }
 {

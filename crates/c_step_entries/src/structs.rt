@@ -28,7 +28,7 @@ fn find_function(
     ensures { IfOk result (λ k. k ≡ function_number (program_of (unit_tree numbers.now)).functions (of.now ++ (codes "__" ++ name.now))) }
 {
     let name = function_name(alloc, of, name)?;
-    Ok(numbers.function(name.as_slice()))
+    Ok(numbers.function_spelt(name.as_slice()))
 }
 
 /// What is kept of a method of a struct with this type.

@@ -4,7 +4,7 @@ use Rattle.std.specs.Prelude.{bytes_eq}
 use Rattle.std.specs.Option.{option_map, option_and_then}
 use Rattle.c_text.specs.declared.nodes.CParam.{CParam}
 use Rattle.c_text.specs.CTree.{TypeTree, uint, size, boolean, uint_pointer, struct_pointer, text, ParamTree, ItemTree}
-use Rattle.c_text.specs.CNodes.{Nodes, unit_tree}
+use Rattle.c_text.specs.CNodes.{Nodes, bytes_at, unit_tree}
 use Rattle.c_text.specs.CFits.{HasParam, HasParams}
 use Rattle.c_text.proofs.Parts.{no_param}
 use Rattle.c_meaning.specs.CTypes.{StructDecl, TextDecl, CScope, structs_of, texts_of, functions_of, struct_named, function_named, field_named, variable_held, member_held, field_held, cast_from, is_known, value_type, ExprType, numbers, points_to, zero_literal, cell, object, byte}
@@ -36,8 +36,11 @@ module _ (w : Within) (numbered : Nodes) (k : Knows w numbered) where
   pub function_here : (q : List ℕ) (r : Option Head) → Finds (IsHead w.front.nodes) r (function_named (scope_in w).functions q) → Finds (IsHead w.front.nodes) r (function_named (program_scope w).functions q)
   function_here q r h = subst (Finds (IsHead w.front.nodes) r) (sym (functions_same q)) h
 
-  pub number_here : (q : List ℕ) (r : Option ℕ) → r ≡ position (λ it. bytes_eq it.name q) (functions_of (unit_tree numbered)) → r ≡ function_number (program_scope w).functions q
-  number_here q r e = e ∙ (ap (λ (n : Nodes). position (λ it. bytes_eq it.name q) (functions_of (unit_tree n))) k.same ∙ sym (k.alike.numbers q))
+  pub number_here : (n : ℕ) (r : Option ℕ) → r ≡ position (λ it. bytes_eq it.name (bytes_at numbered.names n)) (functions_of (unit_tree numbered)) → r ≡ function_number (program_scope w).functions (bytes_at w.front.nodes.names n)
+  number_here n r e = e ∙ (ap (λ (m : Nodes). position (λ it. bytes_eq it.name (bytes_at m.names n)) (functions_of (unit_tree m))) k.same ∙ sym (k.alike.numbers (bytes_at w.front.nodes.names n)))
+
+  pub text_here : (n : ℕ) (r : Option ℕ) → r ≡ position (λ it. bytes_eq it.name (bytes_at numbered.names n)) (texts_of (unit_tree numbered)) → r ≡ position (λ it. bytes_eq it.name (bytes_at w.front.nodes.names n)) (program_scope w).texts
+  text_here n r e = e ∙ ap (λ (m : Nodes). position (λ it. bytes_eq it.name (bytes_at m.names n)) (texts_of (unit_tree m))) k.same
 
   variables_same : (q : List ℕ) → variable_held (program_scope w) q ≡ variable_held (scope_in w) q
   variables_same q = ap (λ (texts : List TextDecl). variable_held (record (scope_in w) { texts = texts }) q) texts_same
@@ -72,10 +75,10 @@ module _ (w : Within) (numbered : Nodes) (k : Knows w numbered) where
   pub cast_here : (ty : TypeTree) (type : ExprType) (r : Option TypeOf) → TellsType w.front.nodes r (cast_from (scope_in w).structs ty type) → TellsType w.front.nodes r (cast_from (program_scope w).structs ty type)
   cast_here ty type r h = subst (TellsType w.front.nodes r) (sym (casts_same ty type)) h
 
-  pub field_here : (name field : List ℕ) (r : Option ℕ) → r ≡ option_and_then (λ it. position (λ f. bytes_eq f.name field) it.fields) (struct_named (structs_of (unit_tree numbered)) name) → r ≡ field_number (program_scope w) field (Some (points_to (object name)))
-  field_here name field r e =
-      e ∙ (ap (λ (n : Nodes). option_and_then (λ it. position (λ f. bytes_eq f.name field) it.fields) (struct_named (structs_of (unit_tree n)) name)) k.same
-      ∙ ap (λ (o : Option StructDecl). option_and_then (λ it. position (λ f. bytes_eq f.name field) it.fields) o) (sym (k.alike.structs name)))
+  pub field_here : (of field : ℕ) (r : Option ℕ) → r ≡ option_and_then (λ it. position (λ f. bytes_eq f.name (bytes_at numbered.names field)) it.fields) (struct_named (structs_of (unit_tree numbered)) (bytes_at numbered.names of)) → r ≡ field_number (program_scope w) (bytes_at w.front.nodes.names field) (Some (points_to (object (bytes_at w.front.nodes.names of))))
+  field_here of field r e =
+      e ∙ (ap (λ (m : Nodes). option_and_then (λ it. position (λ f. bytes_eq f.name (bytes_at m.names field)) it.fields) (struct_named (structs_of (unit_tree m)) (bytes_at m.names of))) k.same
+      ∙ ap (λ (o : Option StructDecl). option_and_then (λ it. position (λ f. bytes_eq f.name (bytes_at w.front.nodes.names field)) it.fields) o) (sym (k.alike.structs (bytes_at w.front.nodes.names of))))
 
 -- The value of a name.
 pub local_value : (scope : CScope) (q : List ℕ) (r : Option ℕ) (k : ℕ) (string : Option ℕ) → r ≡ position (λ it. bytes_eq it.name q) scope.names → r ≡ Some k → does.Put (put.Fetch k) ∷ [] ≡ variable_code (variable_held scope q) (position (λ it. bytes_eq it.name q) scope.names) string

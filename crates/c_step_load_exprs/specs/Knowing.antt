@@ -4,8 +4,8 @@ use Rattle.c_text.specs.CTree.{ItemTree}
 use Rattle.c_text.specs.CNodes.{Nodes, unit_tree}
 use Rattle.c_meaning.specs.CTypes.{StructDecl, CScope, structs_of, texts_of, functions_of, struct_named, function_named}
 use Rattle.c_step_exprs.specs.Resolving.{function_number}
-use Rattle.c_form_exprs.specs.Tables.{named}
-use Rattle.c_form_exprs.specs.Front.{Within, Tells, entry_param}
+use Rattle.c_form_exprs.specs.Tables.{Table, named}
+use Rattle.c_form_exprs.specs.Front.{Within, TellsOf, entry_param}
 use Rattle.c_step_load_exprs.specs.declared.numbers.Kind.{Kind}
 use Rattle.c_step_load_exprs.specs.declared.numbers.Kind.TheVariants as kind
 
@@ -13,25 +13,31 @@ use Rattle.c_step_load_exprs.specs.declared.numbers.Kind.TheVariants as kind
 abbrev pub HasPlaces : List (List ℕ × ℕ) → List (List ℕ) → Type 0
 HasPlaces es names = (q : List ℕ) → named es q ≡ position (λ name. bytes_eq name q) names
 
+-- So has a table of names of a unit.
+pub record HasNamePlaces (nodes : Nodes) (table : Table ℕ) (names : List (List ℕ)) : Type 0 where
+  pub same : table.names ≡ nodes.names
+  pub places : HasPlaces table.entries names
+
 -- The names of the strings, and of the functions, among items.
 abbrev pub names_of : Kind → List ItemTree → List (List ℕ)
 names_of kind.Text items = map (λ t. t.name) (texts_of items)
 names_of kind.Function items = map (λ f. f.name) (functions_of items)
 
 -- A struct with the number of the table of the places of its fields.
-pub record HasFieldPlaces (tables : List (List (List ℕ × ℕ))) (k : ℕ) (struct : StructDecl) : Type 0 where
-  pub fields : List (List ℕ × ℕ)
+pub record HasFieldPlaces (nodes : Nodes) (tables : List (Table ℕ)) (k : ℕ) (struct : StructDecl) : Type 0 where
+  pub fields : Table ℕ
   pub stands : slice_get tables k ≡ Some fields
-  pub places : HasPlaces fields (map (λ f. f.name) struct.fields)
+  pub places : HasNamePlaces nodes fields (map (λ f. f.name) struct.fields)
 
-abbrev pub HasStructs : List (List (List ℕ × ℕ)) → List (List ℕ × ℕ) → List StructDecl → Type 0
-HasStructs tables by_name structs = Tells (HasFieldPlaces tables) (λ s. s.name) by_name structs
+abbrev pub HasStructs : Nodes → List (Table ℕ) → Table ℕ → List StructDecl → Type 0
+HasStructs nodes tables by_name structs = TellsOf nodes (HasFieldPlaces nodes tables) (λ s. s.name) by_name structs
 
 -- Tables of what the items of a unit declare.
-pub record HasNumbers (nodes : Nodes) (by_struct : List (List ℕ × ℕ)) (by_field : List (List (List ℕ × ℕ))) (by_text by_function : List (List ℕ × ℕ)) : Type 0 where
-  pub structs : HasStructs by_field by_struct (structs_of (unit_tree nodes))
-  pub texts : HasPlaces by_text (names_of kind.Text (unit_tree nodes))
-  pub functions : HasPlaces by_function (names_of kind.Function (unit_tree nodes))
+pub record HasNumbers (nodes : Nodes) (by_struct : Table ℕ) (by_field : List (Table ℕ)) (by_text by_function : Table ℕ) (by_spelling : List (List ℕ × ℕ)) : Type 0 where
+  pub structs : HasStructs nodes by_field by_struct (structs_of (unit_tree nodes))
+  pub texts : HasNamePlaces nodes by_text (names_of kind.Text (unit_tree nodes))
+  pub functions : HasNamePlaces nodes by_function (names_of kind.Function (unit_tree nodes))
+  pub spellings : HasPlaces by_spelling (names_of kind.Function (unit_tree nodes))
 
 -- Each name is found from the last item on as it is from the first one on. So it is where no two structs and no two
 -- functions have one name.

@@ -38,7 +38,7 @@ impl<'r, 'k, 'u> Names<'r, 'k, 'u> {
         requires name { HasName self.now.scope.now.front.nodes name }
         ensures { result ≡ position (λ it. bytes_eq it.name (bytes_at self.now.scope.now.front.nodes.names name.0)) (program_scope self.now.scope.now).texts }
     {
-        self.numbers.text(self.scope.spelt(name))
+        self.numbers.text(name)
     }
 
     /// The number of a function.
@@ -47,7 +47,7 @@ impl<'r, 'k, 'u> Names<'r, 'k, 'u> {
         requires name { HasName self.now.scope.now.front.nodes name }
         ensures { result ≡ function_number (program_scope self.now.scope.now).functions (bytes_at self.now.scope.now.front.nodes.names name.0) }
     {
-        self.numbers.function(self.scope.spelt(name))
+        self.numbers.function(name)
     }
 
     /// The function of a name.
@@ -87,8 +87,7 @@ impl<'r, 'k, 'u> Names<'r, 'k, 'u> {
     {
         match of {
             Some(ExprType::PointsTo(Target::Object(struct_name))) => {
-                self.numbers
-                    .field(self.scope.spelt(struct_name), self.scope.spelt(field))
+                self.numbers.field(struct_name, field)
             }
             Some(ExprType::PointsTo(Target::Cell(_))) => None,
             Some(ExprType::PointsTo(Target::Byte)) => None,

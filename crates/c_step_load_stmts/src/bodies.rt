@@ -9,7 +9,7 @@ ghost use Rattle.c_step_text.specs.Emitted.{span_of};
 ghost use Rattle.c_step_text.specs.Layout.{go, past, past_both, second};
 ghost use Rattle.c_step_load_stmts.specs.Bodies.{nodes_of, scope_of, Fits, with_exprs};
 
-use c_form_exprs::NameTable;
+use c_form_exprs::SpellingTable;
 use c_step_load_exprs::Names;
 use c_step_places::Weighed;
 use c_step_text::{Span, Text};
@@ -25,7 +25,7 @@ pub struct Body<'r, 'k, 'u> {
     /// The statements of the unit, with their weights.
     pub weighed: Weighed<'k>,
     /// The numbers of the labels.
-    pub labels: &'r NameTable<'k, usize>,
+    pub labels: &'r SpellingTable<'k, usize>,
     /// The type of the result; none for `void`.
     pub result: Option<CType>,
     /// How many functions are before this one.

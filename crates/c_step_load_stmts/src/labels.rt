@@ -9,7 +9,7 @@ ghost use Rattle.c_step_places.specs.Places.{PlaceTree, place_in, HasPlace};
 ghost use Rattle.c_step_places.specs.Weights.{WeighsAll};
 ghost use Rattle.c_step_load_stmts.specs.Bodies.{HasLabels};
 
-use c_form_exprs::NameTable;
+use c_form_exprs::SpellingTable;
 use c_step_places::{Place, Weighed, list_places};
 use c_text::{CStmt, CStmtId};
 use std::alloc::Global;
@@ -17,7 +17,7 @@ use wf_text::NoMemory;
 
 /// Adds the label that a statement is, with the statement's number.
 fn add_label<'u>(
-    table: &mut NameTable<'u, usize>,
+    table: &mut SpellingTable<'u, usize>,
     it: &Weighed<'u>,
     at: Place,
 ) -> Result<(), NoMemory>
@@ -40,13 +40,13 @@ pub fn label_numbers<'u>(
     it: &Weighed<'u>,
     body: CStmtId,
     start: usize,
-) -> Result<NameTable<'u, usize>, NoMemory>
+) -> Result<SpellingTable<'u, usize>, NoMemory>
     requires weights { WeighsAll it.now.unit.now it.now.weights.now }
     requires body { body.0 < length it.now.unit.now.stmts }
     ensures { IfOk result (λ table. (name : List ℕ) → named table name ≡ seek (by_name name) start (code_of it.now.unit.now body.0)) }
 {
     let listed = list_places(alloc, it, body, start, true)?;
-    let mut table = NameTable::new(alloc);
+    let mut table = SpellingTable::new(alloc);
     let mut i = 0;
     while i < listed.len() {
         add_label(&mut table, it, listed[i])?;

@@ -12,7 +12,7 @@ use wf_text::NoMemory;
 
 /// The statements from one on, or an instruction that stands after a block.
 #[derive(Clone, Copy)]
-pub enum Task {
+pub(crate) enum Task {
     /// Statements.
     Code {
         /// The first one.
@@ -31,7 +31,7 @@ pub struct Work {
     /// The text.
     pub text: Text,
     /// What is left.
-    pub left: Vec<Task>,
+    pub(crate) left: Vec<Task>,
 }
 
 impl Drop for Work {

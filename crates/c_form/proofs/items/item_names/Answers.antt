@@ -8,7 +8,7 @@ pub loop-i-preserved : goal.loop-i-preserved
 loop-i-preserved c =
     let same : length (unit_tree c.args.unit.now) ≡ length c.args.unit.now.items = tree_length c.args.unit.now in
     record {
-      names = names_next (unit_tree c.args.unit.now) c.loop-i.table c.add.new.self c.loop-i.i c.name_of.result.now c.in_ok-add.field-0 (omega (arith, same, c.loop-i-test.true, c.items.ensures)) c.name_of.ensures c.in_ok-add.ensures.fresh c.in_ok-add.ensures.added c.loop-i.invariant.names;
+      names = names_next (unit_tree c.args.unit.now) c.loop-i.table c.add.new.self c.loop-i.i c.name.result.now c.in_ok-add.field-0 (omega (arith, same, c.loop-i-test.true, c.items.ensures)) (rw c.name.ensures c.name_of.ensures.is) c.in_ok-add.ensures.fresh c.in_ok-add.ensures.added c.loop-i.invariant.names;
       within = omega (arith, c.loop-i-test.true, c.items.ensures);
     }
 

@@ -7,7 +7,7 @@ use Rattle.c_step_load_exprs.proofs.numbers.number_structs.Given as goal
 abbrev pub invariant-loop-i : goal.invariant-loop-i
 invariant-loop-i l = record {
   within : l.i ≤ length l.unit.items;
-  structs : HasStructs l.structs.fields.items l.structs.by_name (structs_of (take l.i (unit_tree l.unit)));
+  structs : HasStructs l.unit l.structs.fields.items l.structs.by_name (structs_of (take l.i (unit_tree l.unit)));
 }
 
 abbrev pub decreases-loop-i : goal.decreases-loop-i

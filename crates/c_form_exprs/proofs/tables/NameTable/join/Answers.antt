@@ -1,37 +1,18 @@
-use Rattle.std.proofs.Common.{◌≡◌, ℕ, [], ◌∷◌, ◌++◌, Some, None, length, map, ap, sym, ◌∙◌}
+use Rattle.std.proofs.Common.{◌≡◌, [], ◌∷◌, ◌++◌, length, map, Some, ap, sym, ◌∙◌, refl}
 use Rattle.std.specs.Ordering.{nat_cmp}
-use Rattle.std.specs.Cmp.Lexicographic.{slice_cmp}
 use Rattle.std.specs.BTreeMap.{get_by}
 use Rattle.std.proofs.lemmas.List.{length-map}
-use Rattle.interner.specs.Interning.{digest}
-use Rattle.interner.proofs.TableLemmas.{other_texts}
-use Rattle.c_form_exprs.proofs.TableLemmas.{seen, first_joined, other_joined, entries_joined, other_numbers}
+use Rattle.c_form_exprs.proofs.TableLemmas.{spelled, number_joined, entries_joined, other_numbers}
 use Rattle.c_form_exprs.proofs.tables.NameTable.join.Goals as goal
 
--- Another name has the same digest.
-pub invariant_of-self-in-Some : goal.invariant_of-self-in-Some
-invariant_of-self-in-Some g c =
+pub invariant_of-self-2 : goal.invariant_of-self-2
+invariant_of-self-2 g c =
+    let names = c.self.inside.unit.now.names in
     let joined : c.push.new.self.items ≡ c.self.inside.entries.items ++ (c.args.name, c.args.value) ∷ [] = c.in-Ok.ensures.items ∙ ap (λ entries. entries ++ (c.args.name, c.args.value) ∷ []) c.reserve.ensures.items in
-    let number : c.len-place.result ≡ length (map seen c.self.inside.entries.items) = c.len-place.ensures ∙ c.self.inside.entries.ok.0 ∙ sym (length-map c.self.inside.entries.items seen) in
-    let has : get_by (nat_cmp (digest c.args.name.now)) c.self.inside.firsts ≡ Some c.in-Some.field-0 =
-    sym (sym c.in-Some.is ∙ c.copied-first.ensures ∙ c.get.ensures.value ∙ ap (λ (made : ℕ). get_by (nat_cmp made) c.self.inside.firsts) c.digest-made.ensures) in
-    other_joined (λ made. get_by (nat_cmp made) c.self.inside.firsts) (λ q. get_by (λ key. slice_cmp nat_cmp q key.now) c.self.inside.others) (λ q. get_by (λ key. slice_cmp nat_cmp q key.now) c.insert.new.self)
-    (map seen c.self.inside.entries.items) _ c.args.name.now c.args.value c.in-Some.field-0
-    c.self.invariant (rw (← c.self.view_is) at c.requires) has (c.in_ok-insert-in-Some.ensures.updates.1 ∙ ap Some number)
-    (λ q f. other_texts (λ key. key.now) c.args.name.now c.self.inside.others c.insert.new.self _ c.in_ok-insert-in-Some.ensures.updates q f)
-    (entries_joined c.self.inside.entries.items c.push.new.self.items c.args.name c.args.value joined)
-
--- No other name has this digest.
-pub invariant_of-self-in-None : goal.invariant_of-self-in-None
-invariant_of-self-in-None g c =
-    let joined : c.push-in-None.new.self.items ≡ c.self.inside.entries.items ++ (c.args.name, c.args.value) ∷ [] = c.in-Ok-push.ensures.items ∙ ap (λ entries. entries ++ (c.args.name, c.args.value) ∷ []) c.reserve.ensures.items in
-    let number : c.len-place.result ≡ length (map seen c.self.inside.entries.items) = c.len-place.ensures ∙ c.self.inside.entries.ok.0 ∙ sym (length-map c.self.inside.entries.items seen) in
-    let none : get_by (nat_cmp (digest c.args.name.now)) c.self.inside.firsts ≡ None =
-    sym (sym c.in-None.is ∙ c.copied-first.ensures ∙ c.get.ensures.value ∙ ap (λ (made : ℕ). get_by (nat_cmp made) c.self.inside.firsts) c.digest-made.ensures) in
-    let here : get_by (nat_cmp (digest c.args.name.now)) c.insert-in-None.new.self ≡ Some (length (map seen c.self.inside.entries.items)) =
-    ap (λ (made : ℕ). get_by (nat_cmp made) c.insert-in-None.new.self) (sym c.digest-made.ensures) ∙ c.in_ok-insert-in-None.ensures.updates.1 ∙ ap Some number in
-    first_joined (λ made. get_by (nat_cmp made) c.self.inside.firsts) (λ made. get_by (nat_cmp made) c.insert-in-None.new.self) (λ q. get_by (λ key. slice_cmp nat_cmp q key.now) c.self.inside.others)
-    (map seen c.self.inside.entries.items) _ c.args.name.now c.args.value
-    c.self.invariant (rw (← c.self.view_is) at c.requires) none here
-    (other_numbers c.self.inside.firsts c.insert-in-None.new.self c.digest-made.result (digest c.args.name.now) _ c.digest-made.ensures c.in_ok-insert-in-None.ensures.updates)
-    (entries_joined c.self.inside.entries.items c.push-in-None.new.self.items c.args.name c.args.value joined)
+    let number : c.len-place.result ≡ length (map (spelled names) c.self.inside.entries.items) = c.len-place.ensures ∙ c.self.inside.entries.ok.0 ∙ sym (length-map c.self.inside.entries.items (spelled names)) in
+    number_joined (λ n. get_by (nat_cmp n) c.self.inside.places) (λ n. get_by (nat_cmp n) c.insert.new.self) names
+    (map (spelled names) c.self.inside.entries.items) _ c.args.name.0 c.args.value
+    c.names-known.ensures.unique (rw (← c.self.view_is) at c.requires.name) c.self.invariant (rw (← c.self.view_is) at c.requires.free)
+    (c.in_ok-insert.ensures.updates.1 ∙ ap Some number)
+    (other_numbers c.self.inside.places c.insert.new.self c.args.name.0 c.args.name.0 _ refl c.in_ok-insert.ensures.updates)
+    (entries_joined (spelled names) c.self.inside.entries.items c.push.new.self.items (c.args.name, c.args.value) joined)

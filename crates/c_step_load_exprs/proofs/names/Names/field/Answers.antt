@@ -7,4 +7,4 @@ returns-in-Some-PointsTo-Object c =
     let points = rw some at c.in-Some-PointsTo-Object.field-0-is in
     let within = rw some at c.in-Some-PointsTo-Object.field-0-0-is in
     let object = rw points at within in
-    rw (some, points, object, ← c.spelt.ensures, ← c.spelt-in-Some-PointsTo-Object.ensures) (field_here c.args.self.now.scope.now c.args.self.now.numbers.now c.requires.knows c.spelt.result.now c.spelt-in-Some-PointsTo-Object.result.now c.field.result c.field.ensures)
+    rw (some, points, object) (field_here c.args.self.now.scope.now c.args.self.now.numbers.now c.requires.knows c.in-Some-PointsTo-Object.struct_name.0 c.args.field.0 c.field.result c.field.ensures)
