@@ -2,8 +2,8 @@
 """The C texts that `gen` writes, through real compilers: each compiles without a remark, and a host program made from a script
 prints the report that belongs to the package, with no finding of the sanitizers.
 
-usage: compiled_reports.py PROGRAM [COUNT [SEED]]    the packages of examples/ and of report_answers.py, and 20 random ones with
-                                                     the seed 1 are the default
+usage: compiled_reports.py PROGRAM [COUNT [SEED]]    the packages of examples/, of report_answers.py and QUIET, and 20 random
+                                                     ones with the seed 1 are the default
 A script becomes a host program in C, which calls the functions of the text as docs/LOWERING.md tells them. The report is that of
 the second opinion (second_opinion/scripts.py); scripts that need more than their turns are left out, since compiled code counts
 none. Compilers that aren't there are skipped: gcc and clang with -fsanitize=address,undefined, at -O0 and -O3, and tcc without.
@@ -26,11 +26,73 @@ ROOT = pathlib.Path(__file__).resolve().parent.parent
 SANITIZERS = ["-fsanitize=address,undefined", "-fno-sanitize-recover=all"]
 # A private method that nothing calls, a comparison that the operands' types decide, a variable compared with itself or assigned to itself.
 ALLOWED = ["-Wno-unused-function", "-Wno-type-limits", "-Wno-tautological-compare", "-Wno-tautological-constant-out-of-range-compare", "-Wno-self-assign"]
-# In random packages also an index past an array, under a comparison that is never met.
-ALLOWED_RANDOM = ["-Wno-array-bounds"]
+# In random packages also what bounds don't look at, since it never runs: an index past an array, a division by 0 or a shift too
+# far, under a comparison that is never met or after a statement that never goes on.
+ALLOWED_RANDOM = ["-Wno-array-bounds", "-Wno-div-by-zero", "-Wno-shift-count-overflow"]
 STRICT = ["-std=c99", "-Wall", "-Wextra", "-Wpedantic", "-Werror", *ALLOWED]
 BUILDS = {"gcc": [["gcc", "-O0", *SANITIZERS], ["gcc", "-O3", *SANITIZERS]], "clang": [["clang", "-O0", *SANITIZERS], ["clang", "-O3", *SANITIZERS]],
           "tcc": [["tcc"]]}
+
+# Packages whose text compilers would remark on if it weren't written with care, each with the lines of a script.
+QUIET = {
+    "a length that is calculated in int beside size": ("""\
+pub struct s?(
+    a : array[4] base.u8,
+)
+pub func s.f!(i: base.u8[..= 4], j: base.u8[..= 4], g: slice base.u8) base.u64 {
+    var m : base.u64
+    var n : base.u64
+    var t : slice base.u8
+    this.a[0] = 1
+    this.a[3] = 4
+    t = args.g
+    n = t.copy_from_slice!(s: this.a[args.i ..])
+    if args.j >= args.i {
+        m = t.copy_from_slice!(s: this.a[args.i .. args.j])
+        n ~mod+= m
+    }
+    m = t.copy_from_slice!(s: this.a[.. args.j])
+    return n ~mod+ m
+}
+""", ["bytes x 0000", "call p.f i=3 j=4 g=x", "show x", "call p.f i=4 j=0 g=x", "show x"]),
+    "two constant statuses": ("""\
+pub status "#a"
+pub status "#b"
+pub struct s?()
+pub func s.f() base.bool {
+    return "#a" == "#b"
+}
+pub func s.g() base.bool {
+    return ("#a" <> ok) and ("#b" == "#b")
+}
+pub func s.h() base.u8 {
+    if (ok == ok) and (not ("#a" <> "#a")) {
+        return 1
+    }
+    while "#a" == ok {
+    } endwhile
+    return 0
+}
+""", ["call p.f", "call p.g", "call p.h"]),
+    "a result without a return": ("""\
+pub struct s?(
+    n : base.u8,
+)
+pub func s.f() base.u8 {
+    while true {
+    } endwhile
+}
+pub func s.g!(src: base.io_reader) base.status {
+    while true {
+        this.n ~mod+= 1
+    } endwhile
+}
+pub func s.h() base.bool {
+    while true {
+    } endwhile
+}
+""", ["null q s", "call q.f", "call q.g src=b", "call q.h"]),
+}
 
 HOST = r"""
 #include <stdio.h>
@@ -184,6 +246,8 @@ def cases(count, seed):
         yield script.stem, script.stem, script.with_suffix(".wuffs").read_text(), [script.read_bytes()]
     for name, text in report_answers.PACKAGES.items():
         yield f"report_answers.py {name}", "k", text, [report_answers.script_of(name, lines) for _, package, lines, _ in report_answers.REPORTS if package == name]
+    for name, (text, lines) in QUIET.items():
+        yield name, "k", text, [report_answers.script_of("s", "|".join(lines))]
     source = random.Random(seed)
     for number in range(count):
         text, declarations = random_reports.accepted(source)

@@ -1,6 +1,6 @@
 -- What an expression of the source is in C. Its value is the same wherever the source's isn't stuck. A cast stands where C
 -- would calculate in another type than the source, and nowhere else: a byte beside a word is converted by C itself.
-use Rattle.std.specs.Prelude.{ℕ, ◌*◌, Bool, true, false, ◌||◌, if◌then◌else◌, nat_eq, nat_le, nat_lt, List, [], ◌∷◌, ◌++◌, Option, None, Some, bytes_eq, codes, decimal}
+use Rattle.std.specs.Prelude.{ℕ, ◌*◌, Bool, true, false, ◌&&◌, ◌||◌, if◌then◌else◌, nat_eq, nat_le, nat_lt, List, [], ◌∷◌, ◌++◌, Option, None, Some, bytes_eq, codes, decimal}
 use Rattle.wf_text.specs.declared.categories.Category.{Category}
 use Rattle.wf_text.specs.declared.categories.Category.TheVariants.{Fine, Note, Suspension, Fault}
 use Rattle.wf_num.specs.declared.c_arithmetic.CTy.{CTy}
@@ -8,6 +8,7 @@ use Rattle.wf_num.specs.declared.c_arithmetic.CTy.TheVariants.{Int, U32, U64}
 use Rattle.wf_base.specs.declared.base_methods.PeekForm.{PeekForm}
 use Rattle.wf_base.specs.declared.base_methods.PeekForm.TheVariants.{PeekU8, PeekU16Le, PeekU32Le}
 use Rattle.wf_ast.specs.TypedTree.{Path, local, field, arg, Arith, plus, minus, times, divided, remainder, shift_left, shift_right, bits_and, bits_or, bits_xor, mod_plus, mod_minus, mod_times, mod_shift_left, sat_plus, sat_minus, Order, less, at_most, equal, differs, at_least, greater, Question, reader_length, reader_position, peek, writer_length, writer_position, NumTree, number, read, element, link, convert, length_of, asked, SliceTree, slice, array, cut, EndTree, absent, present, StatusTree, status, held, no_status, CondTree, truth, flag, compare, same_status, junction, negation, closed, has_category}
+use Rattle.wf_ast.specs.Value.{same_truth}
 use Rattle.c_text.specs.declared.kinds.CNumber.{CNumber}
 use Rattle.c_text.specs.declared.kinds.CNumber.TheVariants as literals
 use Rattle.c_text.specs.declared.kinds.COp.{COp}
@@ -289,10 +290,22 @@ abbrev pub is_constant : StatusTree → Bool
 is_constant (status at n) = true
 is_constant t = false
 
-abbrev pub statuses_compared : (one : Bool) → Names → StatusTree → StatusTree → ExprTree
-statuses_compared true names a b =
+abbrev pub constant_number : StatusTree → ℕ
+constant_number (status at n) = n
+constant_number t = 0
+
+-- Of two constants it is known whether they are one.
+abbrev pub constants_compared : (one : Bool) → (n k : ℕ) → ExprTree
+constants_compared one n k = num (if same_truth one (nat_eq n k) then 1 else 0)
+
+abbrev pub held_compared : (one : Bool) → Names → StatusTree → StatusTree → ExprTree
+held_compared true names a b =
     if is_constant a then two Eq (lowered_status names a) (lowered_status names b) else same_code (lowered_status names a) (lowered_status names b) (is_constant b)
-statuses_compared false names a b = two Ne (lowered_status names a) (lowered_status names b)
+held_compared false names a b = two Ne (lowered_status names a) (lowered_status names b)
+
+abbrev pub statuses_compared : (one : Bool) → Names → StatusTree → StatusTree → ExprTree
+statuses_compared one names a b =
+    if is_constant a && is_constant b then constants_compared one (constant_number a) (constant_number b) else held_compared one names a b
 
 -- A status is ok, or its text begins with a byte. The constant ok has no text.
 abbrev pub begins_with : ℕ → ExprTree → ExprTree

@@ -29,7 +29,7 @@ use Rattle.c_meaning.specs.CExprs.{Surroundings, held_value, combined, truth_val
 use Rattle.c_meaning.specs.CExprs as c
 use Rattle.wf_exprs.specs.Names.{names_of, status_name}
 use Rattle.wf_exprs.specs.Words.{literal, num, two}
-use Rattle.wf_exprs.specs.Exprs.{literal_type, path_code, is_held, is_literal, is_constant, order_op, compared, chained, lowered, lowered_expr, status_constant, lowered_status, statuses_compared, begins_with, category_code, lowered_cond}
+use Rattle.wf_exprs.specs.Exprs.{literal_type, path_code, is_held, is_literal, is_constant, constant_number, constants_compared, held_compared, order_op, compared, chained, lowered, lowered_expr, status_constant, lowered_status, statuses_compared, begins_with, category_code, lowered_cond}
 use Rattle.wf_exprs_laws.specs.ExprLaw.{Declares, HasConstant, DeclaresStatus, DeclaresCond, IsNull, IsStatusValue, GivesNumber, GivesStatus, cell_behind, Stands}
 use Rattle.wf_exprs_laws.proofs.CNumbers.{comparison-whole}
 use Rattle.wf_exprs_laws.proofs.Operands.{IsNumber, literal-number, chained-value}
@@ -335,14 +335,36 @@ module _ (p : PackageTree) (m : MethodTree) (s : State) (x : Surroundings) (st :
         truth-cond x (two Ne e f) (not (nat_eq n k)) (not (nat_eq n k)) (v.1 ∙ rw (g.value, h.value) (statuses-compare v.0 n k g.at h.at n_is k_is g.same h.same).1) refl
 
   -- Both ways to compare them.
-  statuses-cond : (alike : Bool) (a b : StatusTree) (n k : ℕ) → IsStatus n → IsStatus k → GivesStatus x (lowered_status (names_of p m) a) n → GivesStatus x (lowered_status (names_of p m) b) k
-      → CondGives x (statuses_compared alike (names_of p m) a b) (same_truth alike (nat_eq n k))
-  statuses-cond true a b n k n_is k_is g h =
+  held-cond : (alike : Bool) (a b : StatusTree) (n k : ℕ) → IsStatus n → IsStatus k → GivesStatus x (lowered_status (names_of p m) a) n → GivesStatus x (lowered_status (names_of p m) b) k
+      → CondGives x (held_compared alike (names_of p m) a b) (same_truth alike (nat_eq n k))
+  held-cond true a b n k n_is k_is g h =
       let e = lowered_status (names_of p m) a in
       let f = lowered_status (names_of p m) b in
       same-cond x e f (nat_eq n k) (one-cond e f n k n_is k_is g h) (subst (λ t. CondGives x (two Eq f e) t) (turned-same n k) (one-cond f e k n k_is n_is h g)) (two-cond e f n k n_is k_is g h)
       (is_constant a) (is_constant b) (is_held e)
-  statuses-cond false a b n k n_is k_is g h = two-cond (lowered_status (names_of p m) a) (lowered_status (names_of p m) b) n k n_is k_is g h
+  held-cond false a b n k n_is k_is g h = two-cond (lowered_status (names_of p m) a) (lowered_status (names_of p m) b) n k n_is k_is g h
+
+  truth-literal : (b : Bool) → CondGives x (num (if b then 1 else 0)) b
+  truth-literal true = record { at = numeric (number Int 1); value = refl; is = refl }
+  truth-literal false = record { at = numeric (number Int 0); value = refl; is = refl }
+
+  constant-is : (t : StatusTree) (n : ℕ) → is_constant t ≡ true → status_value s t ≡ Some n → constant_number t ≡ n
+  constant-is (status at k) n c e = cc e
+  constant-is (held at path) n c e = absurd (cc c)
+  constant-is no_status n c e = absurd (cc c)
+
+  statuses-cond : (alike : Bool) (a b : StatusTree) (n k : ℕ) → status_value s a ≡ Some n → status_value s b ≡ Some k → IsStatus n → IsStatus k
+      → GivesStatus x (lowered_status (names_of p m) a) n → GivesStatus x (lowered_status (names_of p m) b) k → CondGives x (statuses_compared alike (names_of p m) a b) (same_truth alike (nat_eq n k))
+  statuses-cond alike a b n k e f n_is k_is g h = by (is_constant a) (is_constant b) refl refl
+    where
+      by : (t u : Bool) → is_constant a ≡ t → is_constant b ≡ u
+          → CondGives x (if t && u then constants_compared alike (constant_number a) (constant_number b) else held_compared alike (names_of p m) a b) (same_truth alike (nat_eq n k))
+      by true true v w =
+          subst (λ t. CondGives x (constants_compared alike (constant_number a) (constant_number b)) t)
+          (ap (λ j. same_truth alike (nat_eq j (constant_number b))) (constant-is a n v e) ∙ ap (λ j. same_truth alike (nat_eq n j)) (constant-is b k w f))
+          (truth-literal (same_truth alike (nat_eq (constant_number a) (constant_number b))))
+      by true false v w = held-cond alike a b n k n_is k_is g h
+      by false u v w = held-cond alike a b n k n_is k_is g h
 
   -- ok
   fine-cond : (e : ExprTree) (n : ℕ) → IsStatus n → GivesStatus x e n → CondGives x (two Eq (num 0) e) (same_category Fine (category_of (s.status_text n)))
@@ -409,10 +431,6 @@ module _ (p : PackageTree) (m : MethodTree) (s : State) (x : Surroundings) (st :
   flag-cond e true g = record { at = numeric (number Int 1); value = g.value; is = refl }
   flag-cond e false g = record { at = numeric (number Int 0); value = g.value; is = refl }
 
-  truth-literal : (b : Bool) → CondGives x (num (if b then 1 else 0)) b
-  truth-literal true = record { at = numeric (number Int 1); value = refl; is = refl }
-  truth-literal false = record { at = numeric (number Int 0); value = refl; is = refl }
-
   compare-cond : (op : Order) (a b : NumTree) (t : Bool) → Declares (names_of p m) s x a × Declares (names_of p m) s x b → (well_num (record { within = p; method = m }) a && well_num (record { within = p; method = m }) b) ≡ true
       → option_and_then (λ k. option_map (compares op k) (value s b)) (value s a) ≡ Some t
       → CondGives x (compared op (lowered_expr (names_of p m) a) (lowered_expr (names_of p m) b)) t
@@ -435,7 +453,7 @@ module _ (p : PackageTree) (m : MethodTree) (s : State) (x : Surroundings) (st :
       let f = mapped (λ n. same_truth alike (nat_eq d.from n)) (status_value s d_) b d.gives in
       let g = status-gives a d.from u.0 q.0 d.is in
       let i = status-gives d_ f.from u.1 q.1 f.is in
-      subst (λ b. CondGives x (statuses_compared alike (names_of p m) a d_) b) f.gives (statuses-cond alike a d_ d.from f.from g.0 i.0 g.1 i.1)
+      subst (λ b. CondGives x (statuses_compared alike (names_of p m) a d_) b) f.gives (statuses-cond alike a d_ d.from f.from d.is f.is g.0 i.0 g.1 i.1)
   conditions (junction at both joined a d_) b u h e =
       let q = and_parts (well_cond (record { within = p; method = m }) a) _ h in
       let d = came (λ p. option_map (λ q. if both then p && q else p || q) (truth_of s d_)) (truth_of s a) b e in

@@ -12,7 +12,7 @@ ghost use Rattle.c_text.specs.CNodes.{expr_of};
 ghost use Rattle.c_text.specs.CTree as c;
 ghost use Rattle.c_text.specs.declared.kinds.COp.TheVariants.{Ne};
 ghost use Rattle.c_text.specs.declared.kinds.CUnary.TheVariants.{Not};
-ghost use Rattle.wf_exprs.specs.Exprs.{category_code, compared as compared_code, lowered_cond, lowered_expr, lowered_status, same_code, statuses_compared as statuses_compared_code};
+ghost use Rattle.wf_exprs.specs.Exprs.{category_code, compared as compared_code, constants_compared as constants_compared_code, held_compared as held_compared_code, lowered_cond, lowered_expr, lowered_status, same_code, statuses_compared as statuses_compared_code};
 ghost use Rattle.wf_exprs.specs.Grown.{Grows, HasExpr};
 ghost use Rattle.wf_exprs.specs.Scopes.{path_of};
 ghost use Rattle.wf_exprs.specs.Words.{num, two as two_trees};
@@ -20,7 +20,7 @@ ghost use Rattle.wf_exprs_nodes.specs.Trees.{answers_truth};
 
 use crate::chains::{joins, operation};
 use crate::numbers::number;
-use crate::statuses::{is_constant, is_of_category, status};
+use crate::statuses::{constant_number, is_constant, is_of_category, status};
 use c_text::{CExprId, CList, COp, Unit};
 use std::alloc::Global;
 use wf_ast::{Expr, ExprId, Op, Ty, Typed, io_arg};
@@ -290,6 +290,41 @@ fn statuses_compared(
     requires right { IsTrue (is_status_at scope.now.nodes b) }
     ensures grows { Grows u.old u.new }
     ensures made { IfOk result (λ it. HasExpr u.new it.0 (statuses_compared_code (is_equal (order_in (operator_kind op))) scope.now.names (node_status scope.now.nodes a) (node_status scope.now.nodes b))) }
+{
+    let t = scope.typed();
+    if is_constant(t, a) && is_constant(t, b) {
+        constants_compared(u, op, constant_number(t, a), constant_number(t, b))
+    } else {
+        held_compared(scope, u, op, a, b)
+    }
+}
+
+// Of two constants it is known whether they are one.
+fn constants_compared(u: &mut Unit, op: Op, n: u32, k: u32) -> Result<CExprId, NoMemory>
+    requires { IsTrue (is_ordering (operator_kind op)) }
+    ensures grows { Grows u.old u.new }
+    ensures made { IfOk result (λ it. HasExpr u.new it.0 (constants_compared_code (is_equal (order_in (operator_kind op))) n k)) }
+{
+    if asks_same(op) {
+        truth(u, n == k)
+    } else {
+        truth(u, n != k)
+    }
+}
+
+// Two statuses of which one at least is no constant.
+fn held_compared(
+    scope: &BodyNames,
+    u: &mut Unit,
+    op: Op,
+    a: ExprId,
+    b: ExprId,
+) -> Result<CExprId, NoMemory>
+    requires ordering { IsTrue (is_ordering (operator_kind op)) }
+    requires left { IsTrue (is_status_at scope.now.nodes a) }
+    requires right { IsTrue (is_status_at scope.now.nodes b) }
+    ensures grows { Grows u.old u.new }
+    ensures made { IfOk result (λ it. HasExpr u.new it.0 (held_compared_code (is_equal (order_in (operator_kind op))) scope.now.names (node_status scope.now.nodes a) (node_status scope.now.nodes b))) }
 {
     let left = status(scope, u, a)?;
     let right = status(scope, u, b)?;

@@ -15,7 +15,7 @@ use wf_text::NoMemory;
 
 /// A slice as its pointer and its length, and whether its pointer is never null: it points into an array then.
 #[derive(Clone, Copy)]
-pub struct Cells {
+pub(crate) struct Cells {
     pub pair: Pair,
     pub never_null: bool,
 }

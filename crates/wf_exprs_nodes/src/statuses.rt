@@ -7,7 +7,7 @@ ghost use Rattle.c_text.specs.CGrammar.{is_literal as is_literal_tree};
 ghost use Rattle.c_text.specs.CNodes.{expr_of};
 ghost use Rattle.c_text.specs.CTree as c;
 ghost use Rattle.c_text.specs.declared.kinds.COp.TheVariants.{Eq};
-ghost use Rattle.wf_exprs.specs.Exprs.{begins_with as begins_with_code, category_code, is_constant as is_constant_tree, lowered_status, status_constant as constant_code};
+ghost use Rattle.wf_exprs.specs.Exprs.{begins_with as begins_with_code, category_code, constant_number as number_of_constant, is_constant as is_constant_tree, lowered_status, status_constant as constant_code};
 ghost use Rattle.wf_exprs.specs.Grown.{Grows, HasExpr};
 ghost use Rattle.wf_exprs.specs.Scopes.{path_of};
 ghost use Rattle.wf_exprs.specs.Words.{num, two as two_trees};
@@ -77,6 +77,26 @@ pub(crate) fn is_constant(t: &Typed, e: ExprId) -> bool
         None => match expr {
             Expr::Status(_) => true,
             Expr::Local(_) | Expr::Field(_) => false,
+            Expr::Arg(_) => unreachable!(),
+            Expr::Number(_) | Expr::Const(_) | Expr::Truth(_) => unreachable!(),
+            Expr::Chain { .. } => unreachable!(),
+            Expr::Index { .. } | Expr::Cut { .. } => unreachable!(),
+            Expr::Convert { .. } | Expr::Not(_) | Expr::Base { .. } => unreachable!(),
+        },
+    }
+}
+
+/// The number of a status that is a constant. Zero for a variable.
+pub(crate) fn constant_number(t: &Typed, e: ExprId) -> u32
+    requires { IsTrue (is_status_at t.now e) }
+    ensures { result ≡ number_of_constant (node_status t.now e) }
+{
+    let expr = t.expr(e);
+    match t.constant(e) {
+        Some(_) => unreachable!(),
+        None => match expr {
+            Expr::Status(s) => s.0,
+            Expr::Local(_) | Expr::Field(_) => 0,
             Expr::Arg(_) => unreachable!(),
             Expr::Number(_) | Expr::Const(_) | Expr::Truth(_) => unreachable!(),
             Expr::Chain { .. } => unreachable!(),

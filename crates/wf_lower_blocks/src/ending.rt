@@ -1,6 +1,6 @@
 // A whole body as statements of C, and its end.
 
-ghost use Rattle.std.specs.Prelude.{length, IsTrue, IfOk};
+ghost use Rattle.std.specs.Prelude.{length, true, IsTrue, IfOk};
 ghost use Rattle.wf_ast.specs.TypedInvariant.{block_below};
 ghost use Rattle.wf_ast.specs.TypedTrees.{block_of as block_in};
 ghost use Rattle.wf_exprs.specs.Grown.{Grows, HasCode};
@@ -18,7 +18,7 @@ use wf_lower_stmts::places::{Picked, put_places};
 use wf_text::NoMemory;
 
 /// The end of a body. That of a coroutine stands after its `switch`, and answers ok; a method with a result never comes to its
-/// end.
+/// end, and has a `return` there only where it has no other.
 pub fn ending(b: &Body, u: &mut Unit) -> Result<CStmtId, NoMemory>
     ensures grows { Grows u.old u.new }
     ensures made { IfOk result (λ code. HasCode u.new code.0 (ending_code (form_in b.now))) }
@@ -36,10 +36,25 @@ fn ending_of(b: &Body, u: &mut Unit) -> Result<CStmtId, NoMemory>
     ensures grows { Grows u.old u.new }
     ensures made { IfOk result (λ code. HasCode u.new code.0 (ending_of_code (form_in b.now) (has_result (form_in b.now).method.gives))) }
 {
-    let end = finish(u)?;
     match b.method().gives {
-        Some(_) => Ok(end),
-        None => put_places(b, Picked::All, u, end),
+        Some(_) => after_returns(b, u),
+        None => {
+            let end = finish(u)?;
+            put_places(b, Picked::All, u, end)
+        }
+    }
+}
+
+// A method with a result never comes to its end. Where it has no `return` at all, one stands there.
+fn after_returns(b: &Body, u: &mut Unit) -> Result<CStmtId, NoMemory>
+    ensures grows { Grows u.old u.new }
+    ensures made { IfOk result (λ code. HasCode u.new code.0 (ending_of_code (form_in b.now) true)) }
+{
+    if b.returns() {
+        finish(u)
+    } else {
+        let nothing = number(u, 0)?;
+        give_at_end(b, u, Some(nothing))
     }
 }
 

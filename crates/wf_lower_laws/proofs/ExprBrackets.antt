@@ -21,7 +21,8 @@ use Rattle.c_text.specs.CTree.{TypeTree, ExprTree, variable, member, operation, 
 use Rattle.c_text.specs.CTree as c
 use Rattle.wf_exprs.specs.Names.{Names}
 use Rattle.wf_exprs.specs.Words.{num, uint_of, two}
-use Rattle.wf_exprs.specs.Exprs.{calculated, rank, Rated, rated, recast, firm, balanced, op_of, with_operand, same_op, chained, saturated, cut_off, factor, linked, converted, path_code, Pair, path_pair, is_array, moved, part_pointer, part_length, place_code, bytes_code, peeked, raised, peek_code, asked_code, lowered, lowered_slice, lowered_end, given, status_constant, lowered_status, same_code, is_literal, is_held, compared, is_constant, statuses_compared, begins_with, category_code, lowered_cond}
+use Rattle.wf_ast.specs.Value.{same_truth}
+use Rattle.wf_exprs.specs.Exprs.{calculated, rank, Rated, rated, recast, firm, balanced, op_of, with_operand, same_op, chained, saturated, cut_off, factor, linked, converted, path_code, Pair, path_pair, is_array, moved, part_pointer, part_length, place_code, bytes_code, peeked, raised, peek_code, asked_code, lowered, lowered_slice, lowered_end, given, status_constant, lowered_status, same_code, is_literal, is_held, compared, is_constant, constant_number, constants_compared, held_compared, statuses_compared, begins_with, category_code, lowered_cond}
 use Rattle.wf_lower_laws.specs.BracketLaw.{repeats, goes_on, cond_goes_on, num_within, slice_within, end_within, cond_within}
 use Rattle.wf_lower_laws.proofs.Apart.{same_number}
 use Rattle.wf_lower_laws.proofs.OpenBrackets.{ExprOpens, OperandsOpen}
@@ -331,7 +332,7 @@ by_rated_if : (k : ℕ) (b : Bool) (x y : Rated) → ExprBy k x.code → ExprBy 
 by_rated_if k true x y h j = h
 by_rated_if k false x y h j = j
 
-by_converted : (d k bits : ℕ) (a : Rated) → d + 1 ≤ k → 2 ≤ k → ExprBy d a.code → ExprBy k (converted bits a).code
+pub by_converted : (d k bits : ℕ) (a : Rated) → d + 1 ≤ k → 2 ≤ k → ExprBy d a.code → ExprBy k (converted bits a).code
 by_converted d k bits a l m h =
     let it = rated (cast (uint_of bits) a.code) (calculated bits) in
     let c : ExprBy k it.code = by_cast d k (uint_of bits) a.code l m h in
@@ -512,11 +513,16 @@ module _ (names : Names) where
   by_compared d k at_least a b l h j = by_two d k Ge a b (omega (arith, l)) h j
   by_compared d k greater a b l h j = by_two d k Gt a b (omega (arith, l)) h j
 
-  by_statuses : (k : ℕ) (one : Bool) (a b : StatusTree) → 2 ≤ k → ExprBy k (statuses_compared one names a b)
-  by_statuses k true a b l =
+  by_held : (k : ℕ) (one : Bool) (a b : StatusTree) → 2 ≤ k → ExprBy k (held_compared one names a b)
+  by_held k true a b l =
       by_if k (is_constant a) (two Eq (lowered_status names a) (lowered_status names b)) _ (by_two 0 k Eq _ _ (omega (arith, l)) (by_status 0 a) (by_status 0 b))
       (by_same_code 0 k (lowered_status names a) (lowered_status names b) (is_constant b) (omega (arith, l)) (by_status 0 a) (by_status 0 b))
-  by_statuses k false a b l = by_two 0 k Ne _ _ (omega (arith, l)) (by_status 0 a) (by_status 0 b)
+  by_held k false a b l = by_two 0 k Ne _ _ (omega (arith, l)) (by_status 0 a) (by_status 0 b)
+
+  by_statuses : (k : ℕ) (one : Bool) (a b : StatusTree) → 2 ≤ k → ExprBy k (statuses_compared one names a b)
+  by_statuses k one a b l =
+      by_if k (is_constant a && is_constant b) (constants_compared one (constant_number a) (constant_number b)) (held_compared one names a b)
+      (by_num k (if same_truth one (nat_eq (constant_number a) (constant_number b)) then 1 else 0)) (by_held k one a b l)
 
   begins_two : (d k byte : ℕ) (e : ExprTree) → d + 3 ≤ k → ExprBy d e → ExprBy k (two Both e (two Eq (num byte) (c.element e (num 0))))
   begins_two d k byte e l h =

@@ -9,6 +9,7 @@ use Rattle.wf_base.specs.declared.base_methods.PeekForm.TheVariants.{PeekU8, Pee
 use Rattle.wf_text.specs.declared.categories.Category.{Category}
 use Rattle.wf_text.specs.declared.categories.Category.TheVariants.{Fine, Note, Suspension, Fault}
 use Rattle.wf_ast.specs.TypedTree.{arg, Arith, plus, minus, times, divided, remainder, shift_left, shift_right, bits_and, bits_or, bits_xor, mod_plus, mod_minus, mod_times, mod_shift_left, sat_plus, sat_minus, Order, less, at_most, equal, differs, at_least, greater, Question, reader_length, reader_position, peek, writer_length, writer_position, NumType, NumTree, number, read, element, link, convert, length_of, asked, SliceTree, slice, array, cut, EndTree, absent, present, StatusTree, status, held, no_status, CondTree, truth, flag, compare, same_status, junction, negation, closed, has_category}
+use Rattle.wf_ast.specs.Value.{same_truth}
 use Rattle.wf_ast.specs.WellTyped.{Context, type_at, is_width, is_range, is_number, is_array, may_ask, is_shift, fits, continues, is_whole_number, same_num_type, element_type, is_unrefined, well_num, well_part, well_slice, well_end, well_status, well_cond}
 use Rattle.wf_ast.proofs.Arena.{both_true}
 use Rattle.c_text.specs.declared.kinds.CNumber.{CNumber}
@@ -23,7 +24,7 @@ use Rattle.c_meaning.specs.CValues.{common}
 use Rattle.c_meaning.specs.CTypes.{CScope, promoted, ExprType, numbers, points_to, zero_literal, byte, as_number, arithmetic_type, sum_type, one_type, test_type, operation_type, operations_type, type_of, operand_types, cast_from, literal_type}
 use Rattle.wf_exprs.specs.Names.{Names}
 use Rattle.wf_exprs.specs.Words.{literal, num, uint_of, width_of, two}
-use Rattle.wf_exprs.specs.Exprs.{calculated, rank, Rated, rated, recast, firm, balanced, with_operand, same_op, chained, cut_off, factor, linked, converted, is_held, is_array as is_whole, moved, part_pointer, part_length, io_code, place_code, end_code, bytes_code, peeked, raised, peek_code, asked_code, same_code, compared, is_literal, is_constant, statuses_compared, begins_with, category_code, lowered, lowered_slice, lowered_end, lowered_status, lowered_cond}
+use Rattle.wf_exprs.specs.Exprs.{calculated, rank, Rated, rated, recast, firm, balanced, with_operand, same_op, chained, cut_off, factor, linked, converted, is_held, is_array as is_whole, moved, part_pointer, part_length, io_code, place_code, end_code, bytes_code, peeked, raised, peek_code, asked_code, same_code, compared, is_literal, is_constant, constant_number, constants_compared, held_compared, statuses_compared, begins_with, category_code, lowered, lowered_slice, lowered_end, lowered_status, lowered_cond}
 use Rattle.wf_lower_laws.specs.KindLaw.{IsNum, IsPointer, IsText, IsBuffer, Declares, has_op, has_question, num_served, slice_served, end_served, status_served, cond_served, ExpressionsKeepKinds}
 
 module _ (S : CScope) where
@@ -164,7 +165,7 @@ module _ (S : CScope) where
   rated_if true x y h j = h
   rated_if false x y h j = j
 
-  converted_kind : (bits : ℕ) (a : Rated) → IsNum S a.code → IsNum S (converted bits a).code
+  pub converted_kind : (bits : ℕ) (a : Rated) → IsNum S a.code → IsNum S (converted bits a).code
   converted_kind bits a h =
       let it = rated (cast (uint_of bits) a.code) (calculated bits) in
       rated_if (nat_lt (rank (calculated bits)) (rank a.ty)) it (if nat_eq (rank (calculated bits)) (rank a.ty) || (is_held a.code || nat_lt 0 (rank a.ty)) then a else it) (cast_kind bits a.code h)
@@ -362,11 +363,16 @@ module _ (S : CScope) where
     status_kind (held at path) w s = inr (d.statuses path w)
     status_kind no_status w s = inl refl
 
-    statuses_kind : (one : Bool) (a b : StatusTree) → IsText S (lowered_status names a) → IsText S (lowered_status names b) → IsNum S (statuses_compared one names a b)
-    statuses_kind true a b h j =
+    held_kind : (one : Bool) (a b : StatusTree) → IsText S (lowered_status names a) → IsText S (lowered_status names b) → IsNum S (held_compared one names a b)
+    held_kind true a b h j =
         kind_if (is_constant a) (two Eq (lowered_status names a) (lowered_status names b)) _ (eq_kind (lowered_status names a) (lowered_status names b) h j)
         (same_code_kind (lowered_status names a) (lowered_status names b) (is_constant b) (eq_kind (lowered_status names b) (lowered_status names a) j h) (ne_kind (lowered_status names a) (lowered_status names b) h j) (eq_kind (lowered_status names a) (lowered_status names b) h j))
-    statuses_kind false a b h j = ne_kind (lowered_status names a) (lowered_status names b) h j
+    held_kind false a b h j = ne_kind (lowered_status names a) (lowered_status names b) h j
+
+    statuses_kind : (one : Bool) (a b : StatusTree) → IsText S (lowered_status names a) → IsText S (lowered_status names b) → IsNum S (statuses_compared one names a b)
+    statuses_kind one a b h j =
+        kind_if (is_constant a && is_constant b) (constants_compared one (constant_number a) (constant_number b)) (held_compared one names a b)
+        (num_kind (if same_truth one (nat_eq (constant_number a) (constant_number b)) then 1 else 0)) (held_kind one a b h j)
 
     condition_kind : (t : CondTree) → well_cond x t ≡ true → cond_served has knows reads t ≡ true → IsNum S (lowered_cond names t)
     condition_kind (truth at b) w s = num_kind (if b then 1 else 0)

@@ -17,7 +17,7 @@ use Rattle.wf_exprs.specs.Reads.{expr_reads, args_read, target_reads, result_rea
 use Rattle.wf_lower_laws.proofs.Apart.{right_or}
 use Rattle.wf_exprs.specs.Exprs.{Pair, given, lowered_slice, lowered_status, lowered_cond, status_constant}
 use Rattle.wf_lower_stmts.specs.Forms.{Form, status_local, size_local, is_io, is_kept, stays, holds_something, counts_bytes, keeps, when, put, get, save_locals, restore_locals, save_count, restore_count, save_started, restore_started, give, suspend}
-use Rattle.wf_lower_stmts.specs.Lower.{ending, ending_of, has_result, tail_of, top}
+use Rattle.wf_lower_stmts.specs.Lower.{returns, ending, ending_of, has_result, tail_of, top}
 use Rattle.wf_lower_stmts.specs.Statements.{next_byte, step_on, answer_local, put_into, set_slice, set_value, take_bytes, begun_call, awoken_call, lower_written, is_passed, call_into, hand_on, put_result, handed_call, plain_call, give_status, give_value, begun, awoken, lower_plain}
 
 pub data Straight : (rest code : Code) → Type 0 where
@@ -237,7 +237,7 @@ awoken_straight f j (claim goal ax) rest = over
 
 -- The end of a body.
 endings : (f : Form) (b : Bool) → Straight finish (ending_of f b)
-endings f true = over
+endings f true = ifs (returns f.method.body) finish (give f (Some (num 0)) finish) finish over (gives f (Some (num 0)) finish)
 endings f false = puts f.names (λ n. true) 0 f.method.args finish
 
 pub ending_straight : (f : Form) → Straight finish (ending f)

@@ -32,13 +32,13 @@ use Rattle.wf_exprs.specs.Words.{num, uint_of, width_of, two, of_self, args}
 use Rattle.wf_exprs.specs.Exprs.{path_code, lowered_expr, lowered_slice, given, lowered_status, lowered_cond, status_constant, begins_with, io_code, place_code, end_code, bytes_code, there}
 use Rattle.wf_exprs.specs.Reads.{expr_reads, code_reads}
 use Rattle.wf_lower_stmts.specs.Forms.{Form, status_local, got_local, size_local, held_local, count_local, is_io, is_kept, local_code, saved_code, stays, holds_something, counts_bytes, keeps, place_in, end_of, when, put, get, save_locals, restore_locals, save_count, save_started, give, suspend, resume_here}
-use Rattle.wf_lower_stmts.specs.Lower.{lower, continues as continues_in, again_here, behind_here, other_kind, ending, ending_of, has_result, tail_of, top}
+use Rattle.wf_lower_stmts.specs.Lower.{lower, continues as continues_in, again_here, behind_here, other_kind, returns, ending, ending_of, has_result, tail_of, top}
 use Rattle.wf_lower_stmts.specs.Statements.{put_into, set_slice, set_value, step_on, next_byte, is_used_up, is_big_endian, with_byte, take_byte, take_bytes, written_byte, begun_call, awoken_call, slice_bits, bytes_for, least_size, move, lower_written, value_codes, values_codes, is_passed, receiver_code, callee_name, answer_local, is_wanted, call_into, hand_on, put_result, handed_call, plain_call, give_status, give_value, lower_point, lower_plain, lower_simple, is_suspension as is_held_back}
 use Rattle.wf_lower.specs.Bodies.{params_of, result_of}
 use Rattle.wf_lower_laws.specs.KindLaw.{IsNum, IsPointer, IsText, Declares, KeepKinds, has_op, has_question, num_served, slice_served, end_served, status_served, cond_served}
 use Rattle.wf_lower_laws.proofs.Apart.{left_or, right_or}
 use Rattle.wf_lower_laws.proofs.Names.{both_hold}
-use Rattle.wf_lower_laws.proofs.ExprKinds.{expressions_keep_kinds, num_kind, two_kind, cast_kind, plus_kind, begins_kind}
+use Rattle.wf_lower_laws.proofs.ExprKinds.{expressions_keep_kinds, num_kind, two_kind, cast_kind, converted_kind, plus_kind, begins_kind}
 use Rattle.wf_lower_laws.proofs.Frames.{same_bytes, is_variable, is_result_of}
 use Rattle.wf_lower_laws.proofs.Straight.{straight_reads, gets}
 use Rattle.wf_lower_laws.proofs.CodeTypes.{Fits, num_fits, text_fits, pointer_fits, Cell, NumCell, variable_num, CodeOk, ok_finish, ok_if, ok_assign, ok_number, ok_read, ok_leave, ok_branch, ok_when, ok_repeat, ok_jump, ok_empty, ok_case, ok_label, ok_call, ok_when_assigned, num_typed, num_counts, fits_typed}
@@ -702,7 +702,7 @@ module _ (c : Checked) (f : Form) (Settled : List ℕ → Type 0) (CallOk : List
         let other = slice_ok source r.0 in
         let same : (element_type source).bits ≡ (element_type to).bits = grind (arith, nat_tests, r.1) in
         let P : ℕ → Type 0 = λ bits. IsPointer S bits (lowered_slice f.names source).pointer in
-        least_ok _ _ _ one_part.1 other.1
+        least_ok _ _ _ one_part.1 (converted_kind S 64 (lowered_slice f.names source).length other.1)
         (move_ok (slice_bits to) (element_type to).bits _ _ _ one_part.0 (subst P same other.0) (into_ok t size_local rest (bits_taken t 64 size_local p.0 size_num) ok))
 
     -- ---- calls of methods
@@ -1258,13 +1258,27 @@ module _ (c : Checked) (f : Form) (Settled : List ℕ → Type 0) (CallOk : List
       pub ending_ok : Ok (ending f)
       ending_ok = by (is_coroutine m.mark) refl
         where
-          plain_end : (b : Bool) → Ok (ending_of f b)
-          plain_end true = done
-          plain_end false = puts_ok (λ n. true) 0 m.args finish args_all done
+          -- 0 is a number, a truth value and a status.
+          zero_ok : (gives : Option Ty) → result_of m ≡ answer_type (answer_kind gives) → may_be_result Pure gives ≡ true → has_result gives ≡ true → Ok (give f (Some (num 0)) finish)
+          zero_ok None r q h = absurd (cc h)
+          zero_ok (Some (types.Num width lo hi)) r q h = gives_ok (Some (num 0)) finish (returned _ (num 0) r (num_fits S _ (num 0) refl (num_kind S 0))) done
+          zero_ok (Some types.Flag) r q h = gives_ok (Some (num 0)) finish (returned boolean (num 0) r (num_fits S boolean _ refl (num_kind S 0))) done
+          zero_ok (Some types.Status) r q h = gives_ok (Some (num 0)) finish (returned text (num 0) r (text_fits S (num 0) (inl refl))) done
+          zero_ok (Some types.Reader) r q h = absurd (cc q)
+          zero_ok (Some types.Writer) r q h = absurd (cc q)
+          zero_ok (Some (types.Slice width)) r q h = absurd (cc q)
+          zero_ok (Some (types.Array width lo hi count)) r q h = absurd (cc q)
+          zero_ok (Some (types.Part part)) r q h = absurd (cc q)
+
+          plain_end : (mark : Mark) → is_coroutine mark ≡ false → result_of m ≡ answer_type (answers_of mark m.gives) → may_be_result mark m.gives ≡ true → (b : Bool) → has_result m.gives ≡ b → Ok (ending_of f b)
+          plain_end mark e r q false h = puts_ok (λ n. true) 0 m.args finish args_all done
+          plain_end Pure e r q true h = ok_if c Settled CallOk (returns m.body) finish (give f (Some (num 0)) finish) done (zero_ok m.gives r q h)
+          plain_end Impure e r q true h = ok_if c Settled CallOk (returns m.body) finish (give f (Some (num 0)) finish) done (zero_ok m.gives r (impure_result m.gives q) h)
+          plain_end Coroutine e r q true h = absurd (cc e)
 
           by : (b : Bool) → is_coroutine m.mark ≡ b → Ok (if b then give f (Some (num 0)) finish else ending_of f (has_result m.gives))
           by true e = gives_ok (Some (num 0)) finish (returned text (num 0) (coroutine_result e) (text_fits S (num 0) (inl refl))) done
-          by false e = plain_end (has_result m.gives)
+          by false e = plain_end m.mark e refl result_is (has_result m.gives) refl
 
       pub statements_ok : (numbered : Site → ℕ) → well_block x [] m.body ≡ true → calls_only known m.body ≡ true → Ok (lower f numbered m.body (tail_of f top))
       statements_ok numbered w k = block_ok numbered [] m.body (tail_of f top) w k (ok_if c Settled CallOk (is_coroutine m.mark) finish (ending f) done ending_ok)

@@ -16,7 +16,7 @@ use Rattle.wf_exprs.specs.Names.{Names, point_field}
 use Rattle.wf_exprs.specs.Words.{num, two, of_self, args}
 use Rattle.wf_exprs.specs.Exprs.{Pair, given, lowered_slice, lowered_status, lowered_cond, status_constant, begins_with}
 use Rattle.wf_lower_stmts.specs.Forms.{Form, status_local, size_local, held_local, count_local, is_io, is_kept, stays, holds_something, counts_bytes, keeps, when, put, get, save_locals, save_count, save_started, give, suspend}
-use Rattle.wf_lower_stmts.specs.Lower.{ending, ending_of, has_result, tail_of, top}
+use Rattle.wf_lower_stmts.specs.Lower.{returns, ending, ending_of, has_result, tail_of, top}
 use Rattle.wf_lower_stmts.specs.Statements.{next_byte, step_on, callee_name, receiver_code, values_codes, answer_local, is_wanted, is_suspension, put_into, set_slice, set_value, take_bytes, written_byte, begun_call, awoken_call, lower_written, is_passed, call_into, hand_on, put_result, handed_call, plain_call, give_status, give_value, begun, awoken, lower_plain}
 
 over : (p q : Option Place) → p ≡ None → first_of p q ≡ q
@@ -218,7 +218,7 @@ module _ (l : Label) where
 
   -- The end of a body has no label.
   endings : (f : Form) (b : Bool) (k : Continuation) → find l (ending_of f b) k ≡ None
-  endings f true k = refl
+  endings f true k = ifs (returns f.method.body) finish (give f (Some (num 0)) finish) finish (λ k. refl) (gives f (Some (num 0)) finish) k
   endings f false k = puts f.names (λ n. true) 0 f.method.args finish k
 
   pub top_has_none : (f : Form) (k : Continuation) → find l (tail_of f top) k ≡ None

@@ -19,14 +19,17 @@ use Rattle.wf_ast.specs.declared.typed_code.Stmt.{Stmt}
 use Rattle.wf_ast.specs.declared.typed_code.Stmt.TheVariants as stmts
 use Rattle.wf_ast.specs.declared.typed_code.StmtNode.{StmtNode}
 use Rattle.wf_ast.specs.declared.typed_nodes.TypedNodes.{TypedNodes}
-use Rattle.wf_ast.specs.TypedTree.{ValueTree, Target, Awaited, Simple, assign, await, perform, invoke, break_from, continue_in, give_back, yield, claim, Site, Block, end, plain, choose, loop}
-use Rattle.wf_ast.specs.TypedTrees.{tree_of, optional_target, base_call, call_made, block_made, otherwise_made, if_made, stmt_made, onto, stmt_makers, block_of}
-use Rattle.wf_ast.specs.TypedInvariant.{each_numbered, is_expr, block_below, optional_block_below, stmt_below, IsTyped}
+use Rattle.wf_ast.specs.declared.types.Ty.{Ty}
+use Rattle.wf_ast.specs.declared.types.Ty.TheVariants as types
+use Rattle.wf_ast.specs.TypedTree.{ValueTree, numeric, logical, state, elements, io, lost, Target, Awaited, Simple, assign, await, perform, invoke, break_from, continue_in, give_back, yield, claim, Site, Block, end, plain, choose, loop}
+use Rattle.wf_ast.specs.TypedTrees.{tree_of, type_of_node, optional_target, base_call, call_made, block_made, otherwise_made, if_made, stmt_made, onto, stmt_makers, block_of}
+use Rattle.wf_ast.specs.TypedInvariant.{each_numbered, is_expr, is_tree_of, block_below, optional_block_below, stmt_below, IsTyped}
 use Rattle.wf_ast.specs.WellTyped.{breaks}
 use Rattle.wf_ast.proofs.Arena.{both_true, numbered_from_zero}
+use Rattle.wf_ast.proofs.Accessors.{tree_kind}
 use Rattle.wf_points.proofs.StatementArena.{stmt_is}
 use Rattle.wf_lower_stmts.specs.Forms.{holds_something, counts_bytes, awaits, keeps}
-use Rattle.wf_lower_stmts.specs.Lower.{continues}
+use Rattle.wf_lower_stmts.specs.Lower.{continues, is_return, returns}
 use Rattle.wf_lower_stmts.specs.declared.walks.Sought.{Sought}
 use Rattle.wf_lower_stmts.specs.declared.walks.Sought.TheVariants as sought
 use Rattle.wf_lower_stmts.specs.BodyNodes.{stands, is_break_of, is_continue_of, is_sought, stands_at, stands_among, stands_in_arms, stands_in_else, stands_in_if, stands_of, base_holds, base_counts, call_sought}
@@ -39,7 +42,7 @@ or_assoc : (a b c : Bool) → (a || (b || c)) ≡ ((a || b) || c)
 or_assoc true b c = refl
 or_assoc false b c = refl
 
--- The three tests in the words of the definition.
+-- The tests in the words of the definition.
 pub stands_breaks : (w : ℕ) (b : Block) → stands (is_break_of w) b ≡ breaks w b
 stands_breaks w end = refl
 stands_breaks w (plain site (break_from v) rest) = ap (λ x. nat_eq v w || x) (stands_breaks w rest)
@@ -67,6 +70,12 @@ stands_continues w (plain site (yield n) rest) = stands_continues w rest
 stands_continues w (plain site (claim goal ax) rest) = stands_continues w rest
 stands_continues w (choose site chained c a b rest) = let x = stands_continues w a in let y = stands_continues w b in let z = stands_continues w rest in rw (x, y, z) refl
 stands_continues w (loop site head body rest) = let x = stands_continues w body in let z = stands_continues w rest in rw (x, z) refl
+
+pub stands_returns : (b : Block) → stands is_return b ≡ returns b
+stands_returns end = refl
+stands_returns (plain site s rest) = ap (λ x. is_return s || x) (stands_returns rest)
+stands_returns (choose site chained c a b rest) = let x = stands_returns a in let y = stands_returns b in let z = stands_returns rest in rw (x, y, z) refl
+stands_returns (loop site head body rest) = let x = stands_returns body in let z = stands_returns rest in rw (x, z) refl
 
 pub stands_awaited : (test : Awaited → Bool) (b : Block) → stands (awaits test) b ≡ keeps test b
 stands_awaited test end = refl
@@ -175,42 +184,42 @@ base_counted at target on sigs.IsNote ts = refl
 base_counted at target on sigs.IsSuspension ts = refl
 base_counted at target on sigs.IsError ts = refl
 
--- No call is a jump.
+-- No call is a jump or a `return`.
 base_jumps : (w : ℕ) (at : Place) (target : Target) (on : ValueTree) (sig : BaseSig) (ts : List ValueTree)
-    → (is_break_of w (base_call at target on sig ts) ≡ false) × (is_continue_of w (base_call at target on sig ts) ≡ false)
-base_jumps w at target on (sigs.Read form) [] = (refl, refl)
-base_jumps w at target on (sigs.Read form) (t ∷ ts) = (refl, refl)
-base_jumps w at target on sigs.Skip [] = (refl, refl)
-base_jumps w at target on sigs.Skip (t ∷ []) = (refl, refl)
-base_jumps w at target on sigs.Skip (t ∷ u ∷ ts) = (refl, refl)
-base_jumps w at target on sigs.Write [] = (refl, refl)
-base_jumps w at target on sigs.Write (t ∷ []) = (refl, refl)
-base_jumps w at target on sigs.Write (t ∷ u ∷ ts) = (refl, refl)
-base_jumps w at target on sigs.SkipFast [] = (refl, refl)
-base_jumps w at target on sigs.SkipFast (t ∷ []) = (refl, refl)
-base_jumps w at target on sigs.SkipFast (t ∷ u ∷ []) = (refl, refl)
-base_jumps w at target on sigs.SkipFast (t ∷ u ∷ v ∷ ts) = (refl, refl)
-base_jumps w at target on sigs.WriteFast [] = (refl, refl)
-base_jumps w at target on sigs.WriteFast (t ∷ []) = (refl, refl)
-base_jumps w at target on sigs.WriteFast (t ∷ u ∷ ts) = (refl, refl)
-base_jumps w at target on sigs.WriterCopy [] = (refl, refl)
-base_jumps w at target on sigs.WriterCopy (t ∷ []) = (refl, refl)
-base_jumps w at target on sigs.WriterCopy (t ∷ u ∷ ts) = (refl, refl)
-base_jumps w at target on (sigs.SliceCopy width) [] = (refl, refl)
-base_jumps w at target on (sigs.SliceCopy width) (t ∷ []) = (refl, refl)
-base_jumps w at target on (sigs.SliceCopy width) (t ∷ u ∷ ts) = (refl, refl)
-base_jumps w at target on sigs.ReaderLength ts = (refl, refl)
-base_jumps w at target on sigs.ReaderIsClosed ts = (refl, refl)
-base_jumps w at target on sigs.ReaderPosition ts = (refl, refl)
-base_jumps w at target on (sigs.Peek form) ts = (refl, refl)
-base_jumps w at target on sigs.WriterLength ts = (refl, refl)
-base_jumps w at target on sigs.WriterPosition ts = (refl, refl)
-base_jumps w at target on (sigs.SliceLength width) ts = (refl, refl)
-base_jumps w at target on (sigs.ArrayLength width) ts = (refl, refl)
-base_jumps w at target on sigs.IsOk ts = (refl, refl)
-base_jumps w at target on sigs.IsNote ts = (refl, refl)
-base_jumps w at target on sigs.IsSuspension ts = (refl, refl)
-base_jumps w at target on sigs.IsError ts = (refl, refl)
+    → (is_break_of w (base_call at target on sig ts) ≡ false) × ((is_continue_of w (base_call at target on sig ts) ≡ false) × (is_return (base_call at target on sig ts) ≡ false))
+base_jumps w at target on (sigs.Read form) [] = (refl, (refl, refl))
+base_jumps w at target on (sigs.Read form) (t ∷ ts) = (refl, (refl, refl))
+base_jumps w at target on sigs.Skip [] = (refl, (refl, refl))
+base_jumps w at target on sigs.Skip (t ∷ []) = (refl, (refl, refl))
+base_jumps w at target on sigs.Skip (t ∷ u ∷ ts) = (refl, (refl, refl))
+base_jumps w at target on sigs.Write [] = (refl, (refl, refl))
+base_jumps w at target on sigs.Write (t ∷ []) = (refl, (refl, refl))
+base_jumps w at target on sigs.Write (t ∷ u ∷ ts) = (refl, (refl, refl))
+base_jumps w at target on sigs.SkipFast [] = (refl, (refl, refl))
+base_jumps w at target on sigs.SkipFast (t ∷ []) = (refl, (refl, refl))
+base_jumps w at target on sigs.SkipFast (t ∷ u ∷ []) = (refl, (refl, refl))
+base_jumps w at target on sigs.SkipFast (t ∷ u ∷ v ∷ ts) = (refl, (refl, refl))
+base_jumps w at target on sigs.WriteFast [] = (refl, (refl, refl))
+base_jumps w at target on sigs.WriteFast (t ∷ []) = (refl, (refl, refl))
+base_jumps w at target on sigs.WriteFast (t ∷ u ∷ ts) = (refl, (refl, refl))
+base_jumps w at target on sigs.WriterCopy [] = (refl, (refl, refl))
+base_jumps w at target on sigs.WriterCopy (t ∷ []) = (refl, (refl, refl))
+base_jumps w at target on sigs.WriterCopy (t ∷ u ∷ ts) = (refl, (refl, refl))
+base_jumps w at target on (sigs.SliceCopy width) [] = (refl, (refl, refl))
+base_jumps w at target on (sigs.SliceCopy width) (t ∷ []) = (refl, (refl, refl))
+base_jumps w at target on (sigs.SliceCopy width) (t ∷ u ∷ ts) = (refl, (refl, refl))
+base_jumps w at target on sigs.ReaderLength ts = (refl, (refl, refl))
+base_jumps w at target on sigs.ReaderIsClosed ts = (refl, (refl, refl))
+base_jumps w at target on sigs.ReaderPosition ts = (refl, (refl, refl))
+base_jumps w at target on (sigs.Peek form) ts = (refl, (refl, refl))
+base_jumps w at target on sigs.WriterLength ts = (refl, (refl, refl))
+base_jumps w at target on sigs.WriterPosition ts = (refl, (refl, refl))
+base_jumps w at target on (sigs.SliceLength width) ts = (refl, (refl, refl))
+base_jumps w at target on (sigs.ArrayLength width) ts = (refl, (refl, refl))
+base_jumps w at target on sigs.IsOk ts = (refl, (refl, refl))
+base_jumps w at target on sigs.IsNote ts = (refl, (refl, refl))
+base_jumps w at target on sigs.IsSuspension ts = (refl, (refl, refl))
+base_jumps w at target on sigs.IsError ts = (refl, (refl, refl))
 
 call_is_sought : (nodes : TypedNodes) (s : Sought) (at : Place) (target : Target) (keep : Bool) (callee : Callee) (args : List ExprId)
     → is_sought s (call_made nodes (tree_of nodes) at target keep callee (map (tree_of nodes) args)) ≡ call_sought nodes s callee args
@@ -219,7 +228,7 @@ call_is_sought nodes (sought.Break w) at target keep (callees.Sub x m) args = re
 call_is_sought nodes (sought.Break w) at target keep (callees.Base on sig) args = (base_jumps w.0 at target (tree_of nodes on) sig (map (tree_of nodes) args)).0
 call_is_sought nodes (sought.Continue w) at target keep (callees.Own m) args = refl
 call_is_sought nodes (sought.Continue w) at target keep (callees.Sub x m) args = refl
-call_is_sought nodes (sought.Continue w) at target keep (callees.Base on sig) args = (base_jumps w.0 at target (tree_of nodes on) sig (map (tree_of nodes) args)).1
+call_is_sought nodes (sought.Continue w) at target keep (callees.Base on sig) args = (base_jumps w.0 at target (tree_of nodes on) sig (map (tree_of nodes) args)).1.0
 call_is_sought nodes sought.Held at target keep (callees.Own m) args = refl
 call_is_sought nodes sought.Held at target keep (callees.Sub x m) args = refl
 call_is_sought nodes sought.Held at target keep (callees.Base on sig) args = base_held nodes at target (tree_of nodes on) sig args
@@ -227,16 +236,46 @@ call_is_sought nodes sought.Counted at target keep (callees.Own m) args = refl
 call_is_sought nodes sought.Counted at target keep (callees.Sub x m) args = refl
 call_is_sought nodes sought.Counted at target keep (callees.Base on sig) args =
     base_counted at target (tree_of nodes on) sig (map (tree_of nodes) args) ∙ ap (base_counts sig) (length-map args (tree_of nodes))
+call_is_sought nodes sought.Return at target keep (callees.Own m) args = refl
+call_is_sought nodes sought.Return at target keep (callees.Sub x m) args = refl
+call_is_sought nodes sought.Return at target keep (callees.Base on sig) args = (base_jumps 0 at target (tree_of nodes on) sig (map (tree_of nodes) args)).1.1
 
--- Statements that are no jump and wait for nothing.
-idle : (s : Sought) (x : Simple) → ((w : ℕ) → is_break_of w x ≡ false) → ((w : ℕ) → is_continue_of w x ≡ false) → ((test : Awaited → Bool) → awaits test x ≡ false) → is_sought s x ≡ false
-idle (sought.Break w) x b c m = b w.0
-idle (sought.Continue w) x b c m = c w.0
-idle sought.Held x b c m = m holds_something
-idle sought.Counted x b c m = m counts_bytes
+-- Statements that are no jump and no `return` and wait for nothing.
+idle : (s : Sought) (x : Simple) → ((w : ℕ) → is_break_of w x ≡ false) → ((w : ℕ) → is_continue_of w x ≡ false) → ((test : Awaited → Bool) → awaits test x ≡ false) → is_return x ≡ false → is_sought s x ≡ false
+idle (sought.Break w) x b c m r = b w.0
+idle (sought.Continue w) x b c m r = c w.0
+idle sought.Held x b c m r = m holds_something
+idle sought.Counted x b c m r = m counts_bytes
+idle sought.Return x b c m r = r
+
+-- A `return` is one whatever it gives: the tree of an expression is never lost.
+given_back : (s : Sought) (v : ValueTree) → is_return (give_back (Some v)) ≡ true → is_sought s (give_back (Some v)) ≡ is_sought s (give_back None)
+given_back (sought.Break w) v h = refl
+given_back (sought.Continue w) v h = refl
+given_back sought.Held v h = refl
+given_back sought.Counted v h = refl
+given_back sought.Return v h = h
 
 lt_from : (m n : ℕ) → nat_lt m n ≡ true → m < n
 lt_from m n h = grind (arith, nat_tests, h)
+
+kind_given : (ty : Ty) (t : ValueTree) → is_tree_of ty t ≡ true → is_return (give_back (Some t)) ≡ true
+kind_given ty (numeric t) h = refl
+kind_given ty (logical t) h = refl
+kind_given ty (state t) h = refl
+kind_given ty (elements t) h = refl
+kind_given ty (io at a) h = refl
+kind_given (types.Num width lo hi) lost h = absurd (cc h)
+kind_given types.Flag lost h = absurd (cc h)
+kind_given types.Status lost h = absurd (cc h)
+kind_given types.Reader lost h = absurd (cc h)
+kind_given types.Writer lost h = absurd (cc h)
+kind_given (types.Slice width) lost h = absurd (cc h)
+kind_given (types.Array width lo hi count) lost h = absurd (cc h)
+kind_given (types.Part part) lost h = absurd (cc h)
+
+tree_given : (nodes : TypedNodes) → IsTyped nodes → (e : ExprId) → is_expr nodes e ≡ true → is_return (give_back (Some (tree_of nodes e))) ≡ true
+tree_given nodes typed e h = kind_given (type_of_node nodes e.0) (tree_of nodes e) (tree_kind nodes typed e (lt_from e.0 (length nodes.exprs) h))
 
 lt_more : (k m n : ℕ) → m ≤ n → nat_lt k m ≡ true → nat_lt k n ≡ true
 lt_more k m n l h = grind (arith, nat_tests, l, h)
@@ -255,7 +294,7 @@ node_there (n ∷ ns) (suc s) h = node_there ns s (omega (arith, h))
 three : (a b c d e : Bool) → a ≡ b → c ≡ (d || e) → (a || (c || false)) ≡ ((b || d) || e)
 three a b c d e p q = ap (λ x. x || (c || false)) p ∙ ap (λ x. b || x) (or_false c ∙ q) ∙ or_assoc b d e
 
-module _ (nodes : TypedNodes) (ordered : each_numbered (λ s node. stmt_below nodes s node.stmt) 0 nodes.stmts ≡ true) (s : Sought) where
+module _ (nodes : TypedNodes) (ordered : each_numbered (λ s node. stmt_below nodes s node.stmt) 0 nodes.stmts ≡ true) (trees : (e : ExprId) → is_expr nodes e ≡ true → is_return (give_back (Some (tree_of nodes e))) ≡ true) (s : Sought) where
   module _ (n : ℕ) (at close : Place) where
     made_in_front : (st : Stmt) (rest : Block)
         → stands (is_sought s) (stmt_made nodes (tree_of nodes) (onto (stmt_makers nodes)) n (record { stmt = st; at = at; inner = close }) rest)
@@ -312,7 +351,7 @@ module _ (nodes : TypedNodes) (ordered : each_numbered (λ s node. stmt_below no
 
     if_among : (site : Site) (arms : List Arm) (other : Option typed_code.Block) → list_all (λ a. is_expr nodes a.cond && block_below k a.body) arms ≡ true → optional_block_below k other ≡ true
         → stands (is_sought s) (if_made (tree_of nodes) (onto (stmt_makers nodes)) site arms other end) ≡ stands_in_if (stands_at nodes (is_sought s)) arms other
-    if_among site [] other h o = or_false _ ∙ idle s _ (λ w. refl) (λ w. refl) (λ test. refl)
+    if_among site [] other h o = or_false _ ∙ idle s _ (λ w. refl) (λ w. refl) (λ test. refl) refl
     if_among site (arm ∷ arms) other h o =
         let p = both_true (is_expr nodes arm.cond && block_below k arm.body) (list_all (λ a. is_expr nodes a.cond && block_below k a.body) arms) h in
         let q = both_true (is_expr nodes arm.cond) (block_below k arm.body) p.0 in
@@ -322,7 +361,7 @@ module _ (nodes : TypedNodes) (ordered : each_numbered (λ s node. stmt_below no
 
     by_stmt : (n : ℕ) (at close : Place) (st : Stmt) → stmt_below nodes k st ≡ true
         → stands (is_sought s) (stmt_made nodes (tree_of nodes) (onto (stmt_makers nodes)) n (record { stmt = st; at = at; inner = close }) end) ≡ stands_of nodes (stands_at nodes (is_sought s)) s st
-    by_stmt n at close (stmts.Assign target op value) h = or_false _ ∙ idle s _ (λ w. refl) (λ w. refl) (λ test. refl)
+    by_stmt n at close (stmts.Assign target op value) h = or_false _ ∙ idle s _ (λ w. refl) (λ w. refl) (λ test. refl) refl
     by_stmt n at close (stmts.Call target keep callee args) h = or_false _ ∙ call_is_sought nodes s close (optional_target (tree_of nodes) target) keep callee args
     by_stmt n at close (stmts.If arms otherwise) h =
         let p = both_true (list_all (λ a. is_expr nodes a.cond && block_below k a.body) arms) (optional_block_below k otherwise) h in
@@ -333,10 +372,10 @@ module _ (nodes : TypedNodes) (ordered : each_numbered (λ s node. stmt_below no
         or_false _ ∙ block_among body q.1
     by_stmt n at close (stmts.Break w) h = or_false _
     by_stmt n at close (stmts.Continue w) h = or_false _
-    by_stmt n at close (stmts.Return None) h = or_false _ ∙ idle s _ (λ w. refl) (λ w. refl) (λ test. refl)
-    by_stmt n at close (stmts.Return (Some e)) h = or_false _ ∙ idle s _ (λ w. refl) (λ w. refl) (λ test. refl)
-    by_stmt n at close (stmts.Yield k) h = or_false _ ∙ idle s _ (λ w. refl) (λ w. refl) (λ test. refl)
-    by_stmt n at close (stmts.Assert goal axiom_ref) h = or_false _ ∙ idle s _ (λ w. refl) (λ w. refl) (λ test. refl)
+    by_stmt n at close (stmts.Return None) h = or_false _
+    by_stmt n at close (stmts.Return (Some e)) h = or_false _ ∙ given_back s (tree_of nodes e) (trees e h)
+    by_stmt n at close (stmts.Yield k) h = or_false _ ∙ idle s _ (λ w. refl) (λ w. refl) (λ test. refl) refl
+    by_stmt n at close (stmts.Assert goal axiom_ref) h = or_false _ ∙ idle s _ (λ w. refl) (λ w. refl) (λ test. refl) refl
 
   by_node : (i : StmtId) (n : StmtNode) → slice_get nodes.stmts i.0 ≡ Some n → stands_at nodes (is_sought s) i ≡ stands_of nodes (stands_at nodes (is_sought s)) s n.stmt
   unfolding stands_at
@@ -353,8 +392,8 @@ node_stands nodes typed s i st h e =
     let P : Option StmtNode → Type 0 = λ o. option_map (λ node. node.stmt) o ≡ Some st in
     let same : n.0.stmt ≡ st = cc (subst P n.1 e) in
     let B : Stmt → Type 0 = λ st. stands_at nodes (is_sought s) i ≡ stands_of nodes (stands_at nodes (is_sought s)) s st in
-    subst B same (by_node nodes typed.stmts_ordered s i n.0 n.1)
+    subst B same (by_node nodes typed.stmts_ordered (tree_given nodes typed) s i n.0 n.1)
 
 -- And in a body.
 pub body_stands : (nodes : TypedNodes) → IsTyped nodes → (s : Sought) (b : typed_code.Block) → block_below (length nodes.stmts) b ≡ true → stands (is_sought s) (block_of nodes b) ≡ stands_among (stands_at nodes (is_sought s)) b.items
-body_stands nodes typed s b h = among nodes typed.stmts_ordered s b.items h
+body_stands nodes typed s b h = among nodes typed.stmts_ordered (tree_given nodes typed) s b.items h

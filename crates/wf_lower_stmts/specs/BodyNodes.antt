@@ -19,7 +19,7 @@ use Rattle.wf_ast.specs.declared.typed_nodes.TypedNodes.{TypedNodes}
 use Rattle.wf_ast.specs.declared.types.Ty.{Ty}
 use Rattle.wf_ast.specs.TypedInvariant.{IsTyped, is_expr, has_few_variables}
 use Rattle.wf_ast.specs.TypedPackage.{Variable, package_of, method_of}
-use Rattle.wf_ast.specs.TypedTree.{ValueTree, Simple, break_from, continue_in, Site, Block, end, plain, choose, loop, Target, to_element, to_flag, to_slice, to_nothing}
+use Rattle.wf_ast.specs.TypedTree.{ValueTree, Simple, break_from, continue_in, give_back, Site, Block, end, plain, choose, loop, Target, to_element, to_flag, to_slice, to_nothing}
 use Rattle.wf_ast.specs.TypedTrees.{no_place, block_of, text_of, tree_of, onto, stmt_makers}
 use Rattle.wf_ast.specs.WellTyped.{io_handed, is_that}
 use Rattle.wf_ast.specs.NodeKinds.{is_number_at, is_slice_at, node_number, node_slice}
@@ -31,6 +31,7 @@ use Rattle.wf_exprs.specs.Names.{Names, local_pointer, local_length, saved_field
 use Rattle.wf_exprs.specs.Words.{of_self}
 use Rattle.wf_exprs.specs.Scopes.{ScopeTree, are_named, path_of}
 use Rattle.wf_lower_stmts.specs.Forms.{Form, form_of, stays, holds_something, counts_bytes, awaits, keeps, size_local, place_in, end_of, put, get}
+use Rattle.wf_lower_stmts.specs.Lower.{is_return, returns}
 use Rattle.wf_lower_stmts.specs.Statements.{is_passed, target_code, is_wanted, set_slice}
 use Rattle.wf_lower_stmts.specs.declared.places.Picked.{Picked}
 use Rattle.wf_lower_stmts.specs.declared.places.Picked.TheVariants as picked
@@ -78,13 +79,14 @@ abbrev pub AreSmall : List (Option ℕ) → Type 0
 AreSmall numbers = (s : ℕ) → point_at numbers s < 2 ^ 31
 
 -- The names, the method and its body belong to one package.
-pub record IsBody (scope : ScopeTree) (nodes : TypedNodes) (numbers : List (Option ℕ)) (m : Method) (body : typed_code.Block) (held counted : Bool) : Type 0 where
+pub record IsBody (scope : ScopeTree) (nodes : TypedNodes) (numbers : List (Option ℕ)) (m : Method) (body : typed_code.Block) (held counted returned : Bool) : Type 0 where
   pub typed : IsTyped nodes
   pub words : HasWords nodes
   pub same_nodes : scope.nodes ≡ nodes
   pub same_names : scope.names ≡ names_of (package_of nodes) (method_of nodes m body)
   pub held_same : held ≡ keeps holds_something (block_of nodes body)
   pub counted_same : counted ≡ keeps counts_bytes (block_of nodes body)
+  pub returned_same : returned ≡ returns (block_of nodes body)
   pub spelt : is_spelt_method nodes m ≡ true
   pub few : has_few_variables m ≡ true
   pub small : AreSmall numbers
@@ -109,6 +111,7 @@ is_sought (sought.Break w) s = is_break_of w.0 s
 is_sought (sought.Continue w) s = is_continue_of w.0 s
 is_sought sought.Held s = awaits holds_something s
 is_sought sought.Counted s = awaits counts_bytes s
+is_sought sought.Return s = is_return s
 
 -- The same of a statement of a package, with the statements inside it.
 unfoldable pub stands_at : TypedNodes → (Simple → Bool) → StmtId → Bool
@@ -183,6 +186,7 @@ stands_of nodes look s (stmts.If arms otherwise) = stands_in_if look arms otherw
 stands_of nodes look s (stmts.While head body) = stands_among look body.items
 stands_of nodes look s (stmts.Break w) = is_sought s (break_from w.0)
 stands_of nodes look s (stmts.Continue w) = is_sought s (continue_in w.0)
+stands_of nodes look s (stmts.Return value) = is_sought s (give_back None)
 stands_of nodes look s (stmts.Call target keep callee args) = call_sought nodes s callee args
 stands_of nodes look s st = false
 

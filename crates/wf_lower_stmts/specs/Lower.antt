@@ -2,7 +2,7 @@
 -- a block and of the code after it, and likewise of what follows a block; so a label is found where the source goes on.
 use Rattle.std.specs.Prelude.{ℕ, Bool, true, false, ◌&&◌, ◌||◌, if◌then◌else◌, nat_eq, Option, None, Some}
 use Rattle.wf_ast.specs.declared.types.Ty.{Ty}
-use Rattle.wf_ast.specs.TypedTree.{Simple, continue_in, Site, Head, Block, end, plain, choose, loop}
+use Rattle.wf_ast.specs.TypedTree.{lost, Simple, continue_in, give_back, Site, Head, Block, end, plain, choose, loop}
 use Rattle.wf_ast.specs.WellTyped.{is_coroutine, breaks}
 use Rattle.wf_meaning.specs.SourceState.{Behind}
 use Rattle.wf_meaning.specs.SourceState as source
@@ -60,10 +60,23 @@ behind_of top = source.stop
 behind_of (within_if passed rest t) = source.behind_if rest (behind_of t)
 behind_of (in_loop site head body rest t) = source.again site head body rest (behind_of t)
 
+-- The statement is a `return`, with a value or without. What stands for no statement is none, and leaves nothing in C.
+abbrev pub is_return : Simple → Bool
+is_return (give_back (Some lost)) = false
+is_return (give_back value) = true
+is_return s = false
+
+-- A `return` stands in the block.
+abbrev pub returns : Block → Bool
+returns end = false
+returns (plain site s rest) = is_return s || returns rest
+returns (choose site chained c a b rest) = returns a || (returns b || returns rest)
+returns (loop site head body rest) = returns body || returns rest
+
 -- The end of a body. That of a coroutine stands after its `switch`, and answers ok; a method with a result never comes
--- to its end.
+-- to its end. Where no `return` stands in it at all, compilers of C ask for one, so one of 0 stands at its end.
 abbrev pub ending_of : Form → (has_result : Bool) → Code
-ending_of f true = finish
+ending_of f true = if returns f.method.body then finish else give f (Some (num 0)) finish
 ending_of f false = put_all f finish
 
 abbrev pub has_result : Option Ty → Bool

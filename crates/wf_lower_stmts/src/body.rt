@@ -9,8 +9,9 @@ ghost use Rattle.c_text.specs.CSpelling.{is_word_byte};
 ghost use Rattle.wf_exprs.specs.Scopes.{are_named};
 ghost use Rattle.wf_lower_stmts.specs.BodyNodes.{AreSmall, HasWords, form_in, is_spelt_method, point_at};
 ghost use Rattle.wf_lower_stmts.specs.Forms.{counts_bytes, holds_something, keeps};
+ghost use Rattle.wf_lower_stmts.specs.Lower.{returns as returns_in};
 
-use crate::walks::{keeps_count, keeps_held};
+use crate::walks::{keeps_count, keeps_held, returns};
 use std::alloc::Global;
 use std::marker::Model;
 use wf_ast::{Block, Method, StmtId, Typed, Var};
@@ -29,6 +30,7 @@ pub struct Body<'a> {
     body: &'a Block,
     keeps_held: bool,
     keeps_count: bool,
+    returns: bool,
 }
 
 impl<'a> Model for Body<'a> {
@@ -38,7 +40,7 @@ impl<'a> Model for Body<'a> {
 
     ghost view = { λ b. record { nodes = b.t.now; method = b.method.now; body = b.body.now; numbers = b.points.now.numbers } };
 
-    ghost invariant = { λ b. IsBody b.scope b.t.now b.points.now.numbers b.method.now b.body.now b.keeps_held b.keeps_count };
+    ghost invariant = { λ b. IsBody b.scope b.t.now b.points.now.numbers b.method.now b.body.now b.keeps_held b.keeps_count b.returns };
 }
 
 impl<'a> Body<'a> {
@@ -69,6 +71,7 @@ impl<'a> Body<'a> {
             body,
             keeps_held: keeps_held(t, body),
             keeps_count: keeps_count(t, body),
+            returns: returns(t, body),
         }
     }
 
@@ -159,6 +162,13 @@ impl<'a> Body<'a> {
         ensures { result ≡ keeps counts_bytes (form_in self.now).method.body }
     {
         self.keeps_count
+    }
+
+    /// Whether a `return` stands in the method.
+    pub fn returns(&self) -> bool
+        ensures { result ≡ returns_in (form_in self.now).method.body }
+    {
+        self.returns
     }
 
     /// The number of a point. Zero for every other statement.

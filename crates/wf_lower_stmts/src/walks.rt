@@ -1,15 +1,15 @@
 // What stands in a block: jumps of a loop, and statements that begin something before they suspend.
 
-ghost use Rattle.std.specs.Prelude.{◌≡◌, ◌<◌, ◌&&◌, true, length, nat_lt, IsTrue};
+ghost use Rattle.std.specs.Prelude.{None, ◌≡◌, ◌<◌, ◌&&◌, true, length, nat_lt, IsTrue};
 ghost use Rattle.std.specs.List.{list_all};
 ghost use Rattle.wf_ast.specs.TypedInvariant.{IsTyped, block_below, is_expr, is_tree_of, optional_block_below, stmt_below};
-ghost use Rattle.wf_ast.specs.TypedTree.{break_from, continue_in};
+ghost use Rattle.wf_ast.specs.TypedTree.{break_from, continue_in, give_back};
 ghost use Rattle.wf_ast.specs.TypedTrees.{block_of, tree_of, type_of_node};
 ghost use Rattle.wf_ast.specs.WellTyped.{breaks as breaks_in};
 ghost use Rattle.wf_ast.specs.NodeKinds.{is_number_at, node_number};
 ghost use Rattle.wf_lower_stmts.specs.BodyNodes.{base_counts, base_holds, base_sought, call_sought, is_sought, stands, stands_among, stands_at, stands_in_arms, stands_in_else, stands_in_if as among_if, stands_of};
 ghost use Rattle.wf_lower_stmts.specs.Forms.{counts_bytes, holds_something, keeps, stays as stays_number};
-ghost use Rattle.wf_lower_stmts.specs.Lower.{continues as continues_in};
+ghost use Rattle.wf_lower_stmts.specs.Lower.{continues as continues_in, returns as returns_in};
 
 use wf_ast::{Arm, Block, Callee, Expr, ExprId, Stmt, StmtId, Ty, Typed};
 use wf_base::{BaseSig, ReadForm};
@@ -25,6 +25,8 @@ pub(crate) enum Sought {
     Held,
     /// A base call that has counted bytes then.
     Counted,
+    /// A `return`.
+    Return,
 }
 
 /// Whether a `break` of the loop stands in the block.
@@ -61,6 +63,15 @@ pub fn keeps_count(t: &Typed, body: &Block) -> bool
     ensures { result ≡ keeps counts_bytes (block_of t.now body.now) }
 {
     stands_in_body(t, Sought::Counted, body)
+}
+
+/// Whether a `return` stands in the block.
+pub fn returns(t: &Typed, body: &Block) -> bool
+    requires typed { IsTyped t.now }
+    requires known { IsTrue (block_below (length t.now.stmts) body.now) }
+    ensures { result ≡ returns_in (block_of t.now body.now) }
+{
+    stands_in_body(t, Sought::Return, body)
 }
 
 // Whether what is looked for stands in a whole body.
@@ -109,7 +120,8 @@ fn found_at(t: &Typed, sought: Sought, s: StmtId) -> bool
         Stmt::Break(w) => is_break(sought, *w),
         Stmt::Continue(w) => is_continue(sought, *w),
         Stmt::Call { callee, args, .. } => is_sought_call(t, sought, *callee, args.as_slice()),
-        Stmt::Assign { .. } | Stmt::Return(_) | Stmt::Yield(_) | Stmt::Assert { .. } => false,
+        Stmt::Return(_) => is_return(sought),
+        Stmt::Assign { .. } | Stmt::Yield(_) | Stmt::Assert { .. } => false,
     }
 }
 
@@ -184,7 +196,7 @@ fn is_break(sought: Sought, w: StmtId) -> bool
     match sought {
         Sought::Break(v) => v.0 == w.0,
         Sought::Continue(_) => false,
-        Sought::Held | Sought::Counted => false,
+        Sought::Held | Sought::Counted | Sought::Return => false,
     }
 }
 
@@ -194,6 +206,16 @@ fn is_continue(sought: Sought, w: StmtId) -> bool
     match sought {
         Sought::Continue(v) => v.0 == w.0,
         Sought::Break(_) => false,
+        Sought::Held | Sought::Counted | Sought::Return => false,
+    }
+}
+
+fn is_return(sought: Sought) -> bool
+    ensures { result ≡ is_sought sought (give_back None) }
+{
+    match sought {
+        Sought::Return => true,
+        Sought::Break(_) | Sought::Continue(_) => false,
         Sought::Held | Sought::Counted => false,
     }
 }
@@ -216,7 +238,7 @@ fn is_sought_base(t: &Typed, sought: Sought, sig: BaseSig, args: &[ExprId]) -> b
     match sought {
         Sought::Held => holds(t, sig, args),
         Sought::Counted => counts(sig, args.len()),
-        Sought::Break(_) | Sought::Continue(_) => false,
+        Sought::Break(_) | Sought::Continue(_) | Sought::Return => false,
     }
 }
 

@@ -22,6 +22,9 @@ keeps_held-requires-clause-known c = body_known c.args.t.now c.args.m.0 c.body-b
 pub keeps_count-requires-clause-known : goal.keeps_count-requires-clause-known
 keeps_count-requires-clause-known c = body_known c.args.t.now c.args.m.0 c.body-body.result.now c.requires.typed c.body-body.ensures
 
+pub returns-requires-clause-known : goal.returns-requires-clause-known
+returns-requires-clause-known c = body_known c.args.t.now c.args.m.0 c.body-body.result.now c.requires.typed c.body-body.ensures
+
 pub invariant_of-result : goal.invariant_of-result
 invariant_of-result c =
     let nodes = c.args.t.now in
@@ -34,6 +37,7 @@ invariant_of-result c =
           c.body-body.result.now c.new.result c.new.ensures;
       held_same = c.keeps_held.ensures;
       counted_same = c.keeps_count.ensures;
+      returned_same = c.returns.ensures;
       spelt = method_spelt nodes c.args.m.0 m c.requires.words c.method-method.ensures;
       few = method_few nodes c.args.m.0 m c.requires.typed c.method-method.ensures;
       small = c.requires.small;

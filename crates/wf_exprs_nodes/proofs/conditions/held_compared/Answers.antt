@@ -1,5 +1,5 @@
 use Rattle.wf_exprs.proofs.Growing.{grows_on}
-use Rattle.wf_exprs_nodes.proofs.conditions.statuses_compared.Goals as goal
+use Rattle.wf_exprs_nodes.proofs.conditions.held_compared.Goals as goal
 
 pub returns-then-not-asks_same-clause-grows : goal.returns-then-not-asks_same-clause-grows
 returns-then-not-asks_same-clause-grows c = grows_on (grows_on c.status.ensures.grows c.status-2.ensures.grows) c.two.ensures.grows
