@@ -1,6 +1,7 @@
 -- The search for the point at a place.
-use Rattle.std.proofs.Common.{◌≡◌, ℕ, zero, suc, ◌+◌, ◌<◌, Bool, true, false, ◌&&◌, List, [], ◌∷◌, drop, get_or, length, Option, Some, None, inl, inr, refl, sym, ap, ◌∙◌, subst, arith}
+use Rattle.std.proofs.Common.{◌≡◌, ℕ, zero, suc, ◌+◌, ◌<◌, ◌≤◌, Bool, true, false, ◌&&◌, List, [], ◌∷◌, drop, get_or, length, Option, Some, None, inl, inr, refl, sym, ap, ◌∙◌, subst, arith}
 use Rattle.std.specs.Prelude.{nat_eq, if◌then◌else◌}
+use Rattle.std.proofs.lemmas.List.{drop_all}
 use Rattle.turns.specs.Run.{Outcome}
 use Rattle.wf_text.specs.declared.place.Place.{Place}
 use Rattle.wf_ast.specs.declared.numbers.StmtId.{StmtId}
@@ -181,16 +182,50 @@ arms_first nodes site (arm ∷ arms) (suc i) d other h =
     arms_first nodes site arms i d other (omega (arith, h)) ∙ ap (λ j. choose site true (cond_in (tree_of nodes one.cond)) (block_made_of nodes one.body.items) (otherwise_made (tree_of nodes) (onto (stmt_makers nodes)) site (drop j (arm ∷ arms)) other) end) (sym e)
 
 -- What follows an arm that holds no such point.
+past_arm : (nodes : TypedNodes) (level : ℕ) (at : Place) (done : Done) (old mid new : Stage) (site : Site) (chained : Bool) (cond : CondTree) (a c : Block) (found : Option Flow)
+    → SoughtBlock nodes level at done a old None mid → SoughtBlock nodes level at done c old found new → SoughtIn nodes level at done (λ rest. choose site chained cond a c rest) old found new
+past_arm nodes level at done old mid new site chained cond a c None none one = in_neither nodes level at done old site chained cond a c mid new none one
+past_arm nodes level at done old mid new site chained cond a c (Some flow) none one = in_else nodes level at done old site chained cond a c flow mid new none one
+
 pub in_rest : (nodes : TypedNodes) (level level' : ℕ) (at : Place) (done : Done) (old mid new : Stage) (site : Site) (chained : Bool) (cond : CondTree) (a c : Block) (found : Option Flow) → level' ≡ level
     → SoughtBlock nodes level at done a old None mid → SoughtBlock nodes level' at done c mid found new → SoughtIn nodes level at done (λ rest. choose site chained cond a c rest) old found new
-in_rest nodes level level' at done old mid new site chained cond a c None same none one =
-    let L : ℕ → Type 0 = λ l. SoughtBlock nodes l at done c mid None new in
-    let S : Stage → Type 0 = λ x. SoughtBlock nodes level at done c x None new in
-    in_neither nodes level at done old site chained cond a c mid new none (subst S (none stop).1 (subst L same one))
-in_rest nodes level level' at done old mid new site chained cond a c (Some flow) same none one =
-    let L : ℕ → Type 0 = λ l. SoughtBlock nodes l at done c mid (Some flow) new in
-    let S : Stage → Type 0 = λ x. SoughtBlock nodes level at done c x (Some flow) new in
-    in_else nodes level at done old site chained cond a c flow mid new none (subst S (none stop).1 (subst L same one))
+in_rest nodes level level' at done old mid new site chained cond a c found same none one =
+    let L : ℕ → Type 0 = λ l. SoughtBlock nodes l at done c mid found new in
+    let S : Stage → Type 0 = λ x. SoughtBlock nodes level at done c x found new in
+    past_arm nodes level at done old mid new site chained cond a c found none (subst S (none stop).1 (subst L same one))
+
+-- The arms of an `if` from the number `i` on, which isn't the first's, and what stands after the last `else`.
+module _ (nodes : TypedNodes) (level : ℕ) (at : Place) (done : Done) (old : Stage) (site : Site) (arms : List Arm) (other : Option typed_code.Block) where
+  abbrev pub from_arm : ℕ → Block
+  from_arm i = otherwise_made (tree_of nodes) (onto (stmt_makers nodes)) site (drop i arms) other
+
+  pub in_arm : (i : ℕ) (d : Arm) (flow : Flow) (new : Stage) → i < length arms → SoughtBlock nodes level at done (block_made_of nodes (get_or arms i d).body.items) old (Some flow) new
+      → SoughtBlock nodes level at done (from_arm i) old (Some flow) new
+  in_arm i d flow new less one =
+      let arm = get_or arms i d in
+      let P : Block → Type 0 = λ b. SoughtBlock nodes level at done b old (Some flow) new in
+      subst P (sym (arms_first nodes site arms i d other less)) (λ behind. in_then nodes level at done old site true (cond_in (tree_of nodes arm.cond)) (block_made_of nodes arm.body.items) (from_arm (i + 1)) flow new one end behind)
+
+  pub after_arm : (i : ℕ) (d : Arm) (mid : Stage) → i < length arms → SoughtBlock nodes level at done (block_made_of nodes (get_or arms i d).body.items) old None mid
+      → (found : Option Flow) (new : Stage) → SoughtBlock nodes level at done (from_arm (i + 1)) old found new → SoughtBlock nodes level at done (from_arm i) old found new
+  after_arm i d mid less none found new one =
+      let arm = get_or arms i d in
+      let P : Block → Type 0 = λ b. SoughtBlock nodes level at done b old found new in
+      subst P (sym (arms_first nodes site arms i d other less)) (λ behind. past_arm nodes level at done old mid new site true (cond_in (tree_of nodes arm.cond)) (block_made_of nodes arm.body.items) (from_arm (i + 1)) found none one end behind)
+
+  past_arms : (i : ℕ) (o : Option typed_code.Block) → length arms ≤ i → other ≡ o → from_arm i ≡ otherwise_made (tree_of nodes) (onto (stmt_makers nodes)) site [] o
+  past_arms i o h e = ap (λ xs. otherwise_made (tree_of nodes) (onto (stmt_makers nodes)) site xs other) (drop_all i arms h) ∙ ap (λ x. otherwise_made (tree_of nodes) (onto (stmt_makers nodes)) site [] x) e
+
+  pub no_else : (i : ℕ) (new : Stage) → length arms ≤ i → other ≡ None → new ≡ old → SoughtBlock nodes level at done (from_arm i) old None new
+  no_else i new h e same =
+      let P : Block → Type 0 = λ b. SoughtBlock nodes level at done b old None new in
+      subst P (sym (past_arms i None h e)) (λ behind. (refl, same))
+
+  pub in_last : (i : ℕ) (block : typed_code.Block) (found : Option Flow) (new : Stage) → length arms ≤ i → other ≡ Some block → SoughtBlock nodes level at done (block_made_of nodes block.items) old found new
+      → SoughtBlock nodes level at done (from_arm i) old found new
+  in_last i block found new h e one =
+      let P : Block → Type 0 = λ b. SoughtBlock nodes level at done b old found new in
+      subst P (sym (past_arms i (Some block) h e)) one
 
 -- The same on as many frames and on the same stage.
 pub moved : (nodes : TypedNodes) (level level' : ℕ) (at : Place) (done : Done) (part : Block → Block) (old old' : Stage) (found : Option Flow) (new : Stage) → level' ≡ level → old' ≡ old
@@ -198,6 +233,13 @@ pub moved : (nodes : TypedNodes) (level level' : ℕ) (at : Place) (done : Done)
 moved nodes level level' at done part old old' found new l e h =
     let L : ℕ → Type 0 = λ k. SoughtIn nodes k at done part old' found new in
     let S : Stage → Type 0 = λ x. SoughtIn nodes level at done part x found new in
+    subst S e (subst L l h)
+
+pub block_moved : (nodes : TypedNodes) (level level' : ℕ) (at : Place) (done : Done) (block : Block) (old old' : Stage) (found : Option Flow) (new : Stage) → level' ≡ level → old' ≡ old
+    → SoughtBlock nodes level' at done block old' found new → SoughtBlock nodes level at done block old found new
+block_moved nodes level level' at done block old old' found new l e h =
+    let L : ℕ → Type 0 = λ k. SoughtBlock nodes k at done block old' found new in
+    let S : Stage → Type 0 = λ x. SoughtBlock nodes level at done block x found new in
     subst S e (subst L l h)
 
 pub run_moved : (nodes : TypedNodes) (level level' : ℕ) (block : Block) (old new : Stage) (flow : Flow) → level' ≡ level → RunsBlock nodes level' block old new flow → RunsBlock nodes level block old new flow

@@ -10,7 +10,7 @@ ghost use Rattle.wf_ast.specs.WellTyped.{is_coroutine as is_marked_coroutine};
 ghost use Rattle.wf_meaning.specs.SourceState.{Object};
 ghost use Rattle.wf_meaning.specs.Entry.{admission, ended};
 ghost use Rattle.wf_meaning.specs.World.{updated};
-ghost use Rattle.wf_meaning.specs.SourceStep.{Call, kept_status as status_kept, put_answer, receiver_of, settled, values_of};
+ghost use Rattle.wf_meaning.specs.SourceStep.{Call as SourceCall, kept_status as status_kept, put_answer, receiver_of, settled, values_of};
 ghost use Rattle.wf_mean_exprs.specs.MachineState.{object_seen, slot_seen};
 ghost use Rattle.wf_mean_stmts.specs.Arguments.{Fills, fitting_value};
 ghost use Rattle.wf_mean_stmts.specs.Entries.{answer_seen};
@@ -20,7 +20,7 @@ ghost use Rattle.wf_mean_runs.specs.Answers.{AdmitsAmong, Closes, Given, TakesVa
 ghost use Rattle.wf_mean_runs.specs.Calls.{ran_seen, tree_called, world_on};
 ghost use Rattle.wf_mean_runs.specs.Frames.{AreReady, args_of, sizes_of};
 
-use crate::calls::{Ran, frame_of};
+use crate::calls::{Call, Ran, frame_of};
 use wf_ast::{Callee, ExprId, FieldId, StmtId, Ty, Typed, Var};
 use wf_base::Mark;
 use wf_mean_exprs::objects::{FieldState, Frame, ObjectState, Progress};
@@ -115,13 +115,10 @@ fn part_at(objects: &[ObjectState], object: u32, field: FieldId) -> Option<u32>
 fn part_in(fields: &[FieldState], field: FieldId) -> Option<u32>
     ensures { result ≡ option_and_then part_of (slice_get fields.now field.0) }
 {
-    match fields.get(field.0 as usize) {
-        Some(FieldState::Part(object)) => Some(*object),
-        Some(FieldState::Num(_)) => None,
-        Some(FieldState::Truth(_)) => None,
-        Some(FieldState::Status(_)) => None,
-        Some(FieldState::Cells(_)) => None,
-        None => None,
+    match fields.get(field.0 as usize)? {
+        FieldState::Part(object) => Some(*object),
+        FieldState::Num(_) | FieldState::Truth(_) | FieldState::Status(_) => None,
+        FieldState::Cells(_) => None,
     }
 }
 
@@ -162,7 +159,7 @@ fn admit_in(
 pub(crate) fn settle_ran(t: &Typed, stage: &mut Stage, m: MethodId, object: u32, ran: Ran)
     requires typed { IsTyped t.now }
     requires known { m.0 < length t.now.methods }
-    ensures ran { (callee : MethodTree) (call : Call) → slice_get (package_of t.now).methods m.0 ≡ Some callee → call.object ≡ object → call.method ≡ m.0 → ran_seen t.now ran stage.new ≡ settled (package_of t.now) callee call (ran_seen t.now ran stage.old) }
+    ensures ran { (callee : MethodTree) (call : SourceCall) → slice_get (package_of t.now).methods m.0 ≡ Some callee → call.object ≡ object → call.method ≡ m.0 → ran_seen t.now ran stage.new ≡ settled (package_of t.now) callee call (ran_seen t.now ran stage.old) }
     ensures frame { stage.new.frame ≡ stage.old.frame }
     ensures shape { shape stage.new ≡ shape stage.old }
     ensures turns { stage.new.turns ≡ stage.old.turns }
@@ -203,25 +200,24 @@ fn settle_in(
     }
 }
 
-/// After the call of a method that is the statement `s`: `keep` is told by `=?`.
+/// After the call of a method with this mark that is the statement `s`.
 pub(crate) fn close_call(
     t: &Typed,
     stage: &mut Stage,
     s: StmtId,
-    target: Option<ExprId>,
-    keep: bool,
+    call: Call<'_>,
     mark: Mark,
     ran: Ran,
 ) -> Flow
     requires typed { IsTyped t.now }
     requires known { s.0 < length t.now.stmts }
-    requires target { IsTrue (is_optional_expr t.now target) }
-    ensures closes { Closes t.now s target keep mark stage.old stage.new (ran_seen t.now ran stage.old) result }
+    requires target { IsTrue (is_optional_expr t.now call.target) }
+    ensures closes { Closes t.now s call.entry.target call.entry.keep mark stage.old stage.new (ran_seen t.now ran stage.old) result }
     ensures shape { shape stage.new ≡ shape stage.old }
     ensures turns { stage.new.turns ≡ stage.old.turns }
 {
     match ran {
-        Ran::Answers(answer) => take_answer(t, stage, s, target, keep, mark, answer),
+        Ran::Answers(answer) => take_answer(t, stage, s, call, mark, answer),
         Ran::Out => Flow::Out,
         Ran::Stuck => Flow::Stuck,
     }
@@ -231,26 +227,25 @@ fn take_answer(
     t: &Typed,
     stage: &mut Stage,
     s: StmtId,
-    target: Option<ExprId>,
-    keep: bool,
+    call: Call<'_>,
     mark: Mark,
     answer: Answer,
 ) -> Flow
     requires typed { IsTyped t.now }
     requires known { s.0 < length t.now.stmts }
-    requires target { IsTrue (is_optional_expr t.now target) }
-    ensures closes { Closes t.now s target keep mark stage.old stage.new (Got stage.old.turns (answer_seen answer, world_on t.now stage.old)) result }
+    requires target { IsTrue (is_optional_expr t.now call.target) }
+    ensures closes { Closes t.now s call.entry.target call.entry.keep mark stage.old stage.new (Got stage.old.turns (answer_seen answer, world_on t.now stage.old)) result }
     ensures shape { shape stage.new ≡ shape stage.old }
     ensures turns { stage.new.turns ≡ stage.old.turns }
 {
-    if keep {
-        return take_value(t, stage, target, kept_status(answer));
+    if call.keep {
+        return take_value(t, stage, call.target, kept_status(answer));
     }
     if is_coroutine(mark) {
-        return hand_on(t, stage, s, target, mark, answer);
+        return hand_on(t, stage, s, call.target, mark, answer);
     }
     match answer {
-        Answer::Returned(v) => take_value(t, stage, target, v),
+        Answer::Returned(v) => take_value(t, stage, call.target, v),
         Answer::Suspended(_) => Flow::Stuck,
     }
 }

@@ -29,8 +29,23 @@ use wf_mean_exprs::objects::{Frame, Progress};
 use wf_mean_flows::flows::Flow;
 use wf_mean_flows::looping::{Round, Turned, close_round, enter_loop};
 use wf_mean_flows::simple::{assign, claim, give_back, pause};
+use wf_mean_stmts::base_calls::BaseCall;
 use wf_mean_stmts::stage::Stage;
 use wf_text::MethodId;
+
+// An `if` as its statement has it: its arms, and what stands after the last `else`.
+#[derive(Clone, Copy)]
+struct Choice<'a> {
+    arms: &'a [Arm],
+    otherwise: &'a Option<Block>,
+}
+
+// A loop as its statement has it: what stands before its body, and its body.
+#[derive(Clone, Copy)]
+struct Loop<'a> {
+    head: &'a LoopHead,
+    body: &'a Block,
+}
 
 // A statement's node, with what it makes of the rest.
 pub(crate) fn node(t: &Typed, s: StmtId) -> &Stmt
@@ -67,8 +82,14 @@ pub(crate) fn run_stmt(t: &Typed, stage: &mut Stage, below: &mut [Frame], s: Stm
             };
             run_call(t, stage, below, s, call, Progress::Untouched)
         }
-        Stmt::If { arms, otherwise } => run_if(t, stage, below, s, arms.as_slice(), otherwise),
-        Stmt::While { head, body } => run_while(t, stage, below, s, head, body),
+        Stmt::If { arms, otherwise } => {
+            let it = Choice {
+                arms: arms.as_slice(),
+                otherwise,
+            };
+            run_if(t, stage, below, s, it)
+        }
+        Stmt::While { head, body } => run_while(t, stage, below, s, Loop { head, body }),
         Stmt::Break(w) => Flow::Breaks(*w),
         Stmt::Continue(w) => Flow::Continues(*w),
         Stmt::Return(value) => give_back(t, stage, s, *value),
@@ -114,33 +135,26 @@ pub(crate) fn falls(flow: Flow) -> bool
 
 /// Runs an `if`, the statement `s`. One without an arm stands for no statement.
 #[cycle(running)]
-fn run_if(
-    t: &Typed,
-    stage: &mut Stage,
-    below: &mut [Frame],
-    s: StmtId,
-    arms: &[Arm],
-    otherwise: &Option<Block>,
-) -> Flow
+fn run_if(t: &Typed, stage: &mut Stage, below: &mut [Frame], s: StmtId, it: Choice<'_>) -> Flow
     requires typed { IsTyped t.now }
     requires known { s.0 < length t.now.stmts }
-    requires arms { IsTrue (list_all (λ a. is_expr t.now a.cond && block_below s.0 a.body) arms.now) }
-    requires otherwise { IsTrue (optional_block_below s.0 otherwise.now) }
-    requires made { (rest : TreeBlock) → made_of t.now s rest ≡ if_made (tree_of t.now) (onto (stmt_makers t.now)) (site_of t.now s) arms.now otherwise.now rest }
+    requires arms { IsTrue (list_all (λ a. is_expr t.now a.cond && block_below s.0 a.body) it.arms.now) }
+    requires otherwise { IsTrue (optional_block_below s.0 it.otherwise.now) }
+    requires made { (rest : TreeBlock) → made_of t.now s rest ≡ if_made (tree_of t.now) (onto (stmt_makers t.now)) (site_of t.now s) it.arms.now it.otherwise.now rest }
     requires ready { AreReady t.now below.old stage.old }
     ensures runs { Runs t.now (length below.old) (made_of t.now s) untouched stage.old stage.new result }
     ensures stays { Stays below.old below.new stage.old stage.new }
 {
-    if arms.is_empty() {
+    if it.arms.is_empty() {
         return Flow::Stuck;
     }
-    match pick(t, stage, s, arms) {
+    match pick(t, stage, s, it.arms) {
         None => Flow::Stuck,
         Some(i) => {
-            if i < arms.len() {
-                run_block(t, stage, below, s.0 as usize, &arms[i].body, 0)
+            if i < it.arms.len() {
+                run_block(t, stage, below, s.0 as usize, &it.arms[i].body, 0)
             } else {
-                match otherwise {
+                match it.otherwise {
                     Some(block) => run_block(t, stage, below, s.0 as usize, block, 0),
                     None => Flow::Falls,
                 }
@@ -151,26 +165,19 @@ fn run_if(
 
 /// Runs a loop, the statement `s`.
 #[cycle(running)]
-fn run_while(
-    t: &Typed,
-    stage: &mut Stage,
-    below: &mut [Frame],
-    s: StmtId,
-    head: &LoopHead,
-    body: &Block,
-) -> Flow
+fn run_while(t: &Typed, stage: &mut Stage, below: &mut [Frame], s: StmtId, it: Loop<'_>) -> Flow
     requires typed { IsTyped t.now }
     requires known { s.0 < length t.now.stmts }
-    requires cond { IsTrue (is_expr t.now head.now.cond) }
-    requires clauses { IsTrue (list_all (λ c. is_expr t.now c.1) head.now.clauses) }
-    requires inside { IsTrue (block_below s.0 body.now) }
-    requires made { (rest : TreeBlock) → made_of t.now s rest ≡ loop (site_of t.now s) (head_made (tree_of t.now) (inner_of t.now s.0) head.now) (block_made_of t.now body.now.items) rest }
+    requires cond { IsTrue (is_expr t.now it.head.now.cond) }
+    requires clauses { IsTrue (list_all (λ c. is_expr t.now c.1) it.head.now.clauses) }
+    requires inside { IsTrue (block_below s.0 it.body.now) }
+    requires made { (rest : TreeBlock) → made_of t.now s rest ≡ loop (site_of t.now s) (head_made (tree_of t.now) (inner_of t.now s.0) it.head.now) (block_made_of t.now it.body.now.items) rest }
     requires ready { AreReady t.now below.old stage.old }
     ensures runs { Runs t.now (length below.old) (made_of t.now s) untouched stage.old stage.new result }
     ensures stays { Stays below.old below.new stage.old stage.new }
 {
-    match enter_loop(t, stage, head) {
-        Turned::Into => run_rounds(t, stage, below, s, head, body),
+    match enter_loop(t, stage, it.head) {
+        Turned::Into => run_rounds(t, stage, below, s, it),
         Turned::Past => Flow::Falls,
         Turned::Out => Flow::Out,
         Turned::Stuck => Flow::Stuck,
@@ -179,26 +186,19 @@ fn run_while(
 
 /// Runs the body of a loop, the statement `s`, pass after pass.
 #[cycle(running)]
-pub(crate) fn run_rounds(
-    t: &Typed,
-    stage: &mut Stage,
-    below: &mut [Frame],
-    s: StmtId,
-    head: &LoopHead,
-    body: &Block,
-) -> Flow
+fn run_rounds(t: &Typed, stage: &mut Stage, below: &mut [Frame], s: StmtId, it: Loop<'_>) -> Flow
     requires typed { IsTyped t.now }
     requires known { s.0 < length t.now.stmts }
-    requires cond { IsTrue (is_expr t.now head.now.cond) }
-    requires clauses { IsTrue (list_all (λ c. is_expr t.now c.1) head.now.clauses) }
-    requires inside { IsTrue (block_below s.0 body.now) }
+    requires cond { IsTrue (is_expr t.now it.head.now.cond) }
+    requires clauses { IsTrue (list_all (λ c. is_expr t.now c.1) it.head.now.clauses) }
+    requires inside { IsTrue (block_below s.0 it.body.now) }
     requires ready { AreReady t.now below.old stage.old }
-    ensures runs { RunsRounds t.now (length below.old) (site_of t.now s) (head_made (tree_of t.now) (inner_of t.now s.0) head.now) (block_made_of t.now body.now.items) stage.old stage.new result }
+    ensures runs { RunsRounds t.now (length below.old) (site_of t.now s) (head_made (tree_of t.now) (inner_of t.now s.0) it.entry.head.now) (block_made_of t.now it.entry.body.now.items) stage.old stage.new result }
     ensures stays { Stays below.old below.new stage.old stage.new }
 {
     loop {
-        let flow = run_block(t, stage, below, s.0 as usize, body, 0);
-        match close_round(t, stage, s, head, flow) {
+        let flow = run_block(t, stage, below, s.0 as usize, it.body, 0);
+        match close_round(t, stage, s, it.head, flow) {
             Round::Again => {}
             Round::Ends(flow) => return flow,
         }
@@ -237,9 +237,13 @@ fn seek_stmt(
         }
         Stmt::Yield(status) => seek_yield(t, stage, s, *status, point),
         Stmt::If { arms, otherwise } => {
-            seek_if(t, stage, below, s, arms.as_slice(), otherwise, point)
+            let it = Choice {
+                arms: arms.as_slice(),
+                otherwise,
+            };
+            seek_if(t, stage, below, s, it, point)
         }
-        Stmt::While { head, body } => seek_while(t, stage, below, s, head, body, point),
+        Stmt::While { head, body } => seek_while(t, stage, below, s, Loop { head, body }, point),
         Stmt::Assign { .. } => None,
         Stmt::Break(_) => None,
         Stmt::Continue(_) => None,
@@ -314,59 +318,52 @@ fn seek_if(
     stage: &mut Stage,
     below: &mut [Frame],
     s: StmtId,
-    arms: &[Arm],
-    otherwise: &Option<Block>,
+    it: Choice<'_>,
     point: Point,
 ) -> Option<Flow>
     requires typed { IsTyped t.now }
     requires known { s.0 < length t.now.stmts }
-    requires arms { IsTrue (list_all (λ a. is_expr t.now a.cond && block_below s.0 a.body) arms.now) }
-    requires otherwise { IsTrue (optional_block_below s.0 otherwise.now) }
-    requires made { (rest : TreeBlock) → made_of t.now s rest ≡ if_made (tree_of t.now) (onto (stmt_makers t.now)) (site_of t.now s) arms.now otherwise.now rest }
+    requires arms { IsTrue (list_all (λ a. is_expr t.now a.cond && block_below s.0 a.body) it.arms.now) }
+    requires otherwise { IsTrue (optional_block_below s.0 it.otherwise.now) }
+    requires made { (rest : TreeBlock) → made_of t.now s rest ≡ if_made (tree_of t.now) (onto (stmt_makers t.now)) (site_of t.now s) it.arms.now it.otherwise.now rest }
     requires ready { AreReady t.now below.old stage.old }
     ensures sought { SoughtIn t.now (length below.old) point.at (done_seen point.done) (made_of t.now s) stage.old result stage.new }
     ensures stays { Stays below.old below.new stage.old stage.new }
 {
-    if arms.is_empty() {
+    if it.arms.is_empty() {
         return None;
     }
-    match seek_block(t, stage, below, s.0 as usize, &arms[0].body, point) {
+    match seek_block(t, stage, below, s.0 as usize, &it.arms[0].body, point) {
         Some(flow) => Some(flow),
-        None => seek_arms(t, stage, below, s, arms, 1, otherwise, point),
+        None => seek_arms(t, stage, below, s, it, point),
     }
 }
 
-/// Goes on after the arms with numbers below `i`.
+/// Goes on in an `if` after its first arm.
 #[cycle(running)]
 fn seek_arms(
     t: &Typed,
     stage: &mut Stage,
     below: &mut [Frame],
     s: StmtId,
-    arms: &[Arm],
-    i: usize,
-    otherwise: &Option<Block>,
+    it: Choice<'_>,
     point: Point,
 ) -> Option<Flow>
     requires typed { IsTyped t.now }
     requires known { s.0 < length t.now.stmts }
-    requires arms { IsTrue (list_all (λ a. is_expr t.now a.cond && block_below s.0 a.body) arms.now) }
-    requires otherwise { IsTrue (optional_block_below s.0 otherwise.now) }
-    requires within { i ≤ length arms.now }
+    requires arms { IsTrue (list_all (λ a. is_expr t.now a.cond && block_below s.0 a.body) it.arms.now) }
+    requires otherwise { IsTrue (optional_block_below s.0 it.otherwise.now) }
     requires ready { AreReady t.now below.old stage.old }
-    ensures sought { SoughtBlock t.now (length below.old) point.at (done_seen point.done) (otherwise_made (tree_of t.now) (onto (stmt_makers t.now)) (site_of t.now s) (drop i arms.now) otherwise.now) stage.old result stage.new }
+    ensures sought { SoughtBlock t.now (length below.old) point.at (done_seen point.done) (otherwise_made (tree_of t.now) (onto (stmt_makers t.now)) (site_of t.now s) (drop 1 it.entry.arms.now) it.entry.otherwise.now) stage.old result stage.new }
     ensures stays { Stays below.old below.new stage.old stage.new }
 {
-    if i >= arms.len() {
-        return match otherwise {
-            Some(block) => seek_block(t, stage, below, s.0 as usize, block, point),
-            None => None,
-        };
+    for i in 1..it.arms.len() {
+        if let Some(flow) = seek_block(t, stage, below, s.0 as usize, &it.arms[i].body, point) {
+            return Some(flow);
+        }
     }
-    match seek_block(t, stage, below, s.0 as usize, &arms[i].body, point) {
-        Some(flow) => Some(flow),
-        None => seek_arms(t, stage, below, s, arms, i + 1, otherwise, point),
-    }
+    let block = it.otherwise.as_ref()?;
+    seek_block(t, stage, below, s.0 as usize, block, point)
 }
 
 #[cycle(running)]
@@ -375,26 +372,22 @@ fn seek_while(
     stage: &mut Stage,
     below: &mut [Frame],
     s: StmtId,
-    head: &LoopHead,
-    body: &Block,
+    it: Loop<'_>,
     point: Point,
 ) -> Option<Flow>
     requires typed { IsTyped t.now }
     requires known { s.0 < length t.now.stmts }
-    requires cond { IsTrue (is_expr t.now head.now.cond) }
-    requires clauses { IsTrue (list_all (λ c. is_expr t.now c.1) head.now.clauses) }
-    requires inside { IsTrue (block_below s.0 body.now) }
-    requires made { (rest : TreeBlock) → made_of t.now s rest ≡ loop (site_of t.now s) (head_made (tree_of t.now) (inner_of t.now s.0) head.now) (block_made_of t.now body.now.items) rest }
+    requires cond { IsTrue (is_expr t.now it.head.now.cond) }
+    requires clauses { IsTrue (list_all (λ c. is_expr t.now c.1) it.head.now.clauses) }
+    requires inside { IsTrue (block_below s.0 it.body.now) }
+    requires made { (rest : TreeBlock) → made_of t.now s rest ≡ loop (site_of t.now s) (head_made (tree_of t.now) (inner_of t.now s.0) it.head.now) (block_made_of t.now it.body.now.items) rest }
     requires ready { AreReady t.now below.old stage.old }
     ensures sought { SoughtIn t.now (length below.old) point.at (done_seen point.done) (made_of t.now s) stage.old result stage.new }
     ensures stays { Stays below.old below.new stage.old stage.new }
 {
-    let flow = match seek_block(t, stage, below, s.0 as usize, body, point) {
-        Some(flow) => flow,
-        None => return None,
-    };
-    match close_round(t, stage, s, head, flow) {
-        Round::Again => Some(run_rounds(t, stage, below, s, head, body)),
+    let flow = seek_block(t, stage, below, s.0 as usize, it.body, point)?;
+    match close_round(t, stage, s, it.head, flow) {
+        Round::Again => Some(run_rounds(t, stage, below, s, it)),
         Round::Ends(flow) => Some(flow),
     }
 }
@@ -420,7 +413,15 @@ fn run_call(
     ensures stays { Stays below.old below.new stage.old stage.new }
 {
     match call.callee {
-        Callee::Base { on, sig } => run_base(t, stage, s, call.target, on, sig, call.args, done),
+        Callee::Base { on, sig } => {
+            let base = BaseCall {
+                target: call.target,
+                on,
+                sig,
+                args: call.args,
+            };
+            run_base(t, stage, s, base, done)
+        }
         Callee::Own(m) => run_invoke(t, stage, below, s, call, m),
         Callee::Sub { method, .. } => run_invoke(t, stage, below, s, call, method),
     }
@@ -453,7 +454,7 @@ fn run_invoke(
     match receiver(stage, call.callee) {
         Some(object) => {
             let ran = run_through(t, stage, below, call.callee, m, object);
-            close_call(t, stage, s, call.target, call.keep, t.method(m).mark, ran)
+            close_call(t, stage, s, call, t.method(m).mark, ran)
         }
         None => Flow::Stuck,
     }

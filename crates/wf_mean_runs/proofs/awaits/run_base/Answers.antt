@@ -17,7 +17,7 @@ returns-in-Goes-clause-runs c = λ level.
     let s = c.args.s in
     let at = inner_of nodes s.0 in
     let old = c.args.stage.now in
-    let st = base_call at (optional_target (tree_of nodes) c.args.target) (tree_of nodes c.args.on) c.args.sig (map (tree_of nodes) c.args.args.now) in
+    let st = base_call at (optional_target (tree_of nodes) c.args.call.target) (tree_of nodes c.args.call.on) c.args.call.sig (map (tree_of nodes) c.args.call.args.now) in
     simple_runs nodes level s st (done_seen c.args.done) old c.base_call.new.stage flows.Falls c.requires.made c.base_call.ensures.shape c.base_call.ensures.turns tt
     (λ rest behind. c.in-Goes.ensures.steps (calls_below nodes level) old.turns (site_of nodes s) at rest behind)
 
@@ -27,7 +27,7 @@ returns-in-Stuck-clause-runs c = λ level.
     let s = c.args.s in
     let at = inner_of nodes s.0 in
     let old = c.args.stage.now in
-    let st = base_call at (optional_target (tree_of nodes) c.args.target) (tree_of nodes c.args.on) c.args.sig (map (tree_of nodes) c.args.args.now) in
+    let st = base_call at (optional_target (tree_of nodes) c.args.call.target) (tree_of nodes c.args.call.on) c.args.call.sig (map (tree_of nodes) c.args.call.args.now) in
     simple_runs nodes level s st (done_seen c.args.done) old c.base_call.new.stage flows.Stuck c.requires.made c.base_call.ensures.shape c.base_call.ensures.turns tt
     (λ rest behind. c.in-Stuck.ensures.steps (calls_below nodes level) old.turns (site_of nodes s) at rest behind)
 
@@ -37,11 +37,11 @@ returns-in-Suspends-clause-runs c = λ level.
     let s = c.args.s in
     let at = inner_of nodes s.0 in
     let old = c.args.stage.now in
-    let target = optional_target (tree_of nodes) c.args.target in
-    let args = map (tree_of nodes) c.args.args.now in
-    let st = base_call at target (tree_of nodes c.args.on) c.args.sig args in
+    let target = optional_target (tree_of nodes) c.args.call.target in
+    let args = map (tree_of nodes) c.args.call.args.now in
+    let st = base_call at target (tree_of nodes c.args.call.on) c.args.call.sig args in
     let calls = calls_below nodes level in
-    let point = calm at target (tree_of nodes c.args.on) c.args.sig args (body_on nodes old) calls old.turns (done_seen c.args.done) (site_of nodes s) end stop (vars_on nodes old) _ _ _ (vars_on nodes c.base_call.new.stage)
+    let point = calm at target (tree_of nodes c.args.call.on) c.args.call.sig args (body_on nodes old) calls old.turns (done_seen c.args.done) (site_of nodes s) end stop (vars_on nodes old) _ _ _ (vars_on nodes c.base_call.new.stage)
     (c.in-Suspends.ensures.steps calls old.turns (site_of nodes s) at end stop) in
     simple_runs nodes level s st (done_seen c.args.done) old c.base_call.new.stage (flows.Suspends c.in-Suspends.status c.stmt_place-at.result c.in-Suspends.done) c.requires.made c.base_call.ensures.shape c.base_call.ensures.turns
     (point, place_is (slice_get nodes.stmts s.0) c.stmt_place-at.result c.stmt_place-at.ensures)

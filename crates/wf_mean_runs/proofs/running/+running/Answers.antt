@@ -1,7 +1,8 @@
-use Rattle.std.proofs.Common.{◌≡◌, ◌+◌, ◌-◌, ◌<◌, slice_get, refl, sym, ap, ◌∙◌, subst, arith, drop, get_or, length, true, false, Some, None, map}
+use Rattle.std.proofs.Common.{◌≡◌, ◌+◌, ◌-◌, ◌<◌, ◌≤◌, Option, slice_get, refl, sym, ap, ◌∙◌, subst, arith, drop, get_or, length, true, false, Some, None, map}
 use Rattle.wf_ast.specs.TypedTree.{Block, break_from, continue_in, end, loop, choose}
 use Rattle.wf_ast.specs.TypedTrees.{head_made, onto, stmt_makers, tree_of, cond_in, otherwise_made, call_made, optional_target}
 use Rattle.wf_meaning.specs.SourceState.{untouched, stop}
+use Rattle.wf_mean_flows.specs.declared.flows.Flow.{Flow}
 use Rattle.wf_mean_flows.specs.declared.flows.Flow.TheVariants as flows
 use Rattle.wf_mean_flows.specs.Flows.{RunsBlock, StandsIn, block_made_of, calls_below, inner_of, made_of, place_of, site_of}
 use Rattle.wf_mean_flows.proofs.SimpleLaws.{still_runs}
@@ -16,8 +17,8 @@ use Rattle.wf_meaning.specs.SourceCall.{run_if}
 use Rattle.wf_mean_exprs.specs.declared.objects.Frame.{Frame}
 use Rattle.wf_mean_exprs.specs.MachineState.{done_seen, slot_seen}
 use Rattle.wf_mean_stmts.specs.declared.stage.Stage.{Stage}
-use Rattle.wf_mean_runs.specs.Seeking.{SoughtBlock}
-use Rattle.wf_mean_runs.proofs.SeekLaws.{arms_first, goes_on_there, if_first, in_rest, in_then, inside_again, inside_ends, leaves_there, moved, not_in_one, not_inside, rounds_moved, run_moved, sought_like, is_here, no_point}
+use Rattle.wf_mean_runs.specs.Seeking.{SoughtBlock, SoughtIn}
+use Rattle.wf_mean_runs.proofs.SeekLaws.{after_arm, block_moved, goes_on_there, if_first, in_arm, in_last, in_rest, in_then, inside_again, inside_ends, leaves_there, moved, no_else, not_in_one, not_inside, rounds_moved, run_moved, sought_like, is_here, no_point}
 use Rattle.wf_points.proofs.PointLemmas.{call_points}
 use Rattle.wf_mean_runs.specs.Calls.{ran_seen, world_on}
 use Rattle.wf_mean_runs.specs.Frames.{Sizes, locals_of}
@@ -54,48 +55,48 @@ run_block-loop-i-preserved t c =
 
 pub run_if-returns-then-is_empty-clause-runs : goal.run_if-returns-then-is_empty-clause-runs
 run_if-returns-then-is_empty-clause-runs t c =
-    if_none c.args.t.now (length c.args.below.now) c.args.s c.args.arms.now c.args.otherwise.now c.args.stage.now c.is_empty.result c.is_empty.ensures c.if-is_empty.true c.requires.made
+    if_none c.args.t.now (length c.args.below.now) c.args.s c.args.it.arms.now c.args.it.otherwise.now c.args.stage.now c.is_empty.result c.is_empty.ensures c.if-is_empty.true c.requires.made
 
 pub run_if-returns-in-None-clause-runs : goal.run_if-returns-in-None-clause-runs
 run_if-returns-in-None-clause-runs t c =
     let nodes = c.args.t.now in
-    if_stuck nodes (length c.args.below.now) (site_of nodes c.args.s) c.args.otherwise.now c.args.stage.now c.args.arms.now (made_of nodes c.args.s) c.requires.made c.in-None.ensures.first
+    if_stuck nodes (length c.args.below.now) (site_of nodes c.args.s) c.args.it.otherwise.now c.args.stage.now c.args.it.arms.now (made_of nodes c.args.s) c.requires.made c.in-None.ensures.first
 
-pub run_if-returns-then-i-arms-clause-runs : goal.run_if-returns-then-i-arms-clause-runs
-run_if-returns-then-i-arms-clause-runs t c =
+pub run_if-returns-then-i-it-clause-runs : goal.run_if-returns-then-i-it-clause-runs
+run_if-returns-then-i-it-clause-runs t c =
     let nodes = c.args.t.now in
-    let arms = c.args.arms.now in
-    let other = c.args.otherwise.now in
-    let arm = c.index-arms-i.result in
+    let arms = c.args.it.arms.now in
+    let other = c.args.it.otherwise.now in
+    let arm = c.index-it-i.result in
     let P : Block → Type 0 = λ b. RunsBlock nodes (length c.args.below.now) b c.args.stage.now c.run_block.new.stage c.run_block.result in
-    if_runs nodes (length c.args.below.now) (site_of nodes c.args.s) other c.args.stage.now c.run_block.new.stage c.run_block.result arms c.in-Some.i (made_of nodes c.args.s) (omega (arith, c.if-i-arms.true)) c.requires.made c.in-Some.ensures.first
-    (subst P (sym (picked_arm nodes arms other c.in-Some.i arm c.if-i-arms.true)) c.run_block.ensures.runs)
+    if_runs nodes (length c.args.below.now) (site_of nodes c.args.s) other c.args.stage.now c.run_block.new.stage c.run_block.result arms c.in-Some.i (made_of nodes c.args.s) (omega (arith, c.if-i-it.true)) c.requires.made c.in-Some.ensures.first
+    (subst P (sym (picked_arm nodes arms other c.in-Some.i arm c.if-i-it.true)) c.run_block.ensures.runs)
 
 pub run_if-returns-in-Some-otherwise-clause-runs : goal.run_if-returns-in-Some-otherwise-clause-runs
 run_if-returns-in-Some-otherwise-clause-runs t c =
     let nodes = c.args.t.now in
-    let arms = c.args.arms.now in
-    let other = c.args.otherwise.now in
+    let arms = c.args.it.arms.now in
+    let other = c.args.it.otherwise.now in
     let one = c.run_block-in-Some-otherwise in
     let P : Block → Type 0 = λ b. RunsBlock nodes (length c.args.below.now) b c.args.stage.now one.new.stage one.result in
     if_runs nodes (length c.args.below.now) (site_of nodes c.args.s) other c.args.stage.now one.new.stage one.result arms c.in-Some.i (made_of nodes c.args.s) (some_there arms c.is_empty.result c.is_empty.ensures c.if-is_empty.false) c.requires.made c.in-Some.ensures.first
-    (subst P (sym (picked_else nodes arms other c.in-Some.i (omega (arith, c.if-i-arms.false)) ∙ ap (else_block nodes) c.in-Some-otherwise.is)) one.ensures.runs)
+    (subst P (sym (picked_else nodes arms other c.in-Some.i (omega (arith, c.if-i-it.false)) ∙ ap (else_block nodes) c.in-Some-otherwise.is)) one.ensures.runs)
 
 pub run_if-returns-in-None-otherwise-clause-runs : goal.run_if-returns-in-None-otherwise-clause-runs
 run_if-returns-in-None-otherwise-clause-runs t c =
     let nodes = c.args.t.now in
-    let arms = c.args.arms.now in
-    let other = c.args.otherwise.now in
+    let arms = c.args.it.arms.now in
+    let other = c.args.it.otherwise.now in
     let P : Block → Type 0 = λ b. RunsBlock nodes (length c.args.below.now) b c.args.stage.now c.args.stage.now flows.Falls in
     if_runs nodes (length c.args.below.now) (site_of nodes c.args.s) other c.args.stage.now c.args.stage.now flows.Falls arms c.in-Some.i (made_of nodes c.args.s) (some_there arms c.is_empty.result c.is_empty.ensures c.if-is_empty.false) c.requires.made c.in-Some.ensures.first
-    (subst P (sym (picked_else nodes arms other c.in-Some.i (omega (arith, c.if-i-arms.false)) ∙ ap (else_block nodes) c.in-None-otherwise.is)) (λ behind. refl))
+    (subst P (sym (picked_else nodes arms other c.in-Some.i (omega (arith, c.if-i-it.false)) ∙ ap (else_block nodes) c.in-None-otherwise.is)) (λ behind. refl))
 
 pub run_rounds-loop-flow-smaller : goal.run_rounds-loop-flow-smaller
 run_rounds-loop-flow-smaller t c =
     let l = c.loop-flow in
     let nodes = c.args.t.now in
-    let head = head_made (tree_of nodes) (inner_of nodes c.args.s.0) c.args.head.now in
-    let body = block_made_of nodes c.args.body.now.items in
+    let head = head_made (tree_of nodes) (inner_of nodes c.args.s.0) c.args.it.head.now in
+    let body = block_made_of nodes c.args.it.body.now.items in
     let turn = takes_turn nodes (length c.args.below.now) (length l.below) l.invariant.stays.count (site_of nodes c.args.s) head body c.args.stage.now l.stage c.run_block-flow.new.stage c.close_round.new.stage c.run_block-flow.result c.close_round.result
     l.invariant.runs c.run_block-flow.ensures.runs (λ rest behind o h. c.close_round.ensures.rounds (length c.args.below.now) (place_of nodes c.args.s.0) (inner_of nodes c.args.s.0) body rest behind o h) c.in-Again.is in
     omega (arith, turn, c.run_block-flow.ensures.stays.fewer)
@@ -104,8 +105,8 @@ pub run_rounds-loop-flow-preserved : goal.run_rounds-loop-flow-preserved
 run_rounds-loop-flow-preserved t c =
     let l = c.loop-flow in
     let nodes = c.args.t.now in
-    let head = head_made (tree_of nodes) (inner_of nodes c.args.s.0) c.args.head.now in
-    let body = block_made_of nodes c.args.body.now.items in
+    let head = head_made (tree_of nodes) (inner_of nodes c.args.s.0) c.args.it.head.now in
+    let body = block_made_of nodes c.args.it.body.now.items in
     let ended = c.run_block-flow.new.stage in
     let new = c.close_round.new.stage in
     let frames = c.run_block-flow.new.below in
@@ -121,8 +122,8 @@ pub run_rounds-returns-in-Ends-clause-runs : goal.run_rounds-returns-in-Ends-cla
 run_rounds-returns-in-Ends-clause-runs t c =
     let l = c.loop-flow in
     let nodes = c.args.t.now in
-    let head = head_made (tree_of nodes) (inner_of nodes c.args.s.0) c.args.head.now in
-    let body = block_made_of nodes c.args.body.now.items in
+    let head = head_made (tree_of nodes) (inner_of nodes c.args.s.0) c.args.it.head.now in
+    let body = block_made_of nodes c.args.it.body.now.items in
     round_ends nodes (length c.args.below.now) (length l.below) l.invariant.stays.count (site_of nodes c.args.s) head body c.args.stage.now l.stage c.run_block-flow.new.stage c.close_round.new.stage c.run_block-flow.result c.close_round.result
     l.invariant.runs c.run_block-flow.ensures.runs (λ rest behind o h. c.close_round.ensures.rounds (length c.args.below.now) (place_of nodes c.args.s.0) (inner_of nodes c.args.s.0) body rest behind o h) _ c.in-Ends.is
 
@@ -141,8 +142,8 @@ run_while-returns-in-Into-clause-runs t c =
     let nodes = c.args.t.now in
     let level = length c.args.below.now in
     let site = site_of nodes c.args.s in
-    let head = head_made (tree_of nodes) (inner_of nodes c.args.s.0) c.args.head.now in
-    let body = block_made_of nodes c.args.body.now.items in
+    let head = head_made (tree_of nodes) (inner_of nodes c.args.s.0) c.args.it.head.now in
+    let body = block_made_of nodes c.args.it.body.now.items in
     runs_like nodes level (made_of nodes c.args.s) (λ rest. loop site head body rest) c.args.stage.now c.run_rounds.new.stage c.run_rounds.result c.requires.made
     (loops_into nodes level site head body c.args.stage.now c.run_rounds.new.stage c.run_rounds.result (c.in-Into.ensures level site (inner_of nodes c.args.s.0) body) c.run_rounds.ensures.runs)
 
@@ -151,8 +152,8 @@ run_while-returns-in-Past-clause-runs t c =
     let nodes = c.args.t.now in
     let level = length c.args.below.now in
     let site = site_of nodes c.args.s in
-    let head = head_made (tree_of nodes) (inner_of nodes c.args.s.0) c.args.head.now in
-    let body = block_made_of nodes c.args.body.now.items in
+    let head = head_made (tree_of nodes) (inner_of nodes c.args.s.0) c.args.it.head.now in
+    let body = block_made_of nodes c.args.it.body.now.items in
     runs_like nodes level (made_of nodes c.args.s) (λ rest. loop site head body rest) c.args.stage.now c.args.stage.now flows.Falls c.requires.made
     (loops_past nodes level site head body c.args.stage.now (c.in-Past.ensures level site (inner_of nodes c.args.s.0) body))
 
@@ -161,8 +162,8 @@ run_while-returns-in-Out-clause-runs t c =
     let nodes = c.args.t.now in
     let level = length c.args.below.now in
     let site = site_of nodes c.args.s in
-    let head = head_made (tree_of nodes) (inner_of nodes c.args.s.0) c.args.head.now in
-    let body = block_made_of nodes c.args.body.now.items in
+    let head = head_made (tree_of nodes) (inner_of nodes c.args.s.0) c.args.it.head.now in
+    let body = block_made_of nodes c.args.it.body.now.items in
     runs_like nodes level (made_of nodes c.args.s) (λ rest. loop site head body rest) c.args.stage.now c.args.stage.now flows.Out c.requires.made
     (loops_out nodes level site head body c.args.stage.now (c.in-Out.ensures level site (inner_of nodes c.args.s.0) body))
 
@@ -171,8 +172,8 @@ run_while-returns-in-Stuck-clause-runs t c =
     let nodes = c.args.t.now in
     let level = length c.args.below.now in
     let site = site_of nodes c.args.s in
-    let head = head_made (tree_of nodes) (inner_of nodes c.args.s.0) c.args.head.now in
-    let body = block_made_of nodes c.args.body.now.items in
+    let head = head_made (tree_of nodes) (inner_of nodes c.args.s.0) c.args.it.head.now in
+    let body = block_made_of nodes c.args.it.body.now.items in
     runs_like nodes level (made_of nodes c.args.s) (λ rest. loop site head body rest) c.args.stage.now c.args.stage.now flows.Stuck c.requires.made
     (loops_stuck nodes level site head body c.args.stage.now (c.in-Stuck.ensures level site (inner_of nodes c.args.s.0) body))
 
@@ -232,13 +233,13 @@ seek_if-returns-in-Some-clause-sought t c =
     let nodes = c.args.t.now in
     let level = length c.args.below.now in
     let site = site_of nodes c.args.s in
-    let arms = c.args.arms.now in
-    let other = c.args.otherwise.now in
+    let arms = c.args.it.arms.now in
+    let other = c.args.it.otherwise.now in
     let some = some_there arms c.is_empty.result c.is_empty.ensures c.if-is_empty.false in
-    let arm = get_or arms 0 c.index-arms-0.result in
+    let arm = get_or arms 0 c.index-it-0.result in
     let rest_of = otherwise_made (tree_of nodes) (onto (stmt_makers nodes)) site (drop 1 arms) other in
     sought_like nodes level c.args.point.at (done_seen c.args.point.done) (made_of nodes c.args.s) (λ rest. choose site false (cond_in (tree_of nodes arm.cond)) (block_made_of nodes arm.body.items) rest_of rest) c.args.stage.now c.seek_block.new.stage (Some c.in-Some.flow)
-    (λ rest. c.requires.made rest ∙ if_first nodes site arms c.index-arms-0.result other rest some)
+    (λ rest. c.requires.made rest ∙ if_first nodes site arms c.index-it-0.result other rest some)
     (in_then nodes level c.args.point.at (done_seen c.args.point.done) c.args.stage.now site false (cond_in (tree_of nodes arm.cond)) (block_made_of nodes arm.body.items) rest_of c.in-Some.flow c.seek_block.new.stage c.in-Some.ensures.sought)
 
 pub seek_if-returns-in-None-clause-sought : goal.seek_if-returns-in-None-clause-sought
@@ -246,80 +247,106 @@ seek_if-returns-in-None-clause-sought t c =
     let nodes = c.args.t.now in
     let level = length c.args.below.now in
     let site = site_of nodes c.args.s in
-    let arms = c.args.arms.now in
-    let other = c.args.otherwise.now in
+    let arms = c.args.it.arms.now in
+    let other = c.args.it.otherwise.now in
     let some = some_there arms c.is_empty.result c.is_empty.ensures c.if-is_empty.false in
-    let arm = get_or arms 0 c.index-arms-0.result in
+    let arm = get_or arms 0 c.index-it-0.result in
     let mid = c.seek_block.new.stage in
     let rest_of = otherwise_made (tree_of nodes) (onto (stmt_makers nodes)) site (drop 1 arms) other in
     sought_like nodes level c.args.point.at (done_seen c.args.point.done) (made_of nodes c.args.s) (λ rest. choose site false (cond_in (tree_of nodes arm.cond)) (block_made_of nodes arm.body.items) rest_of rest) c.args.stage.now c.seek_arms.new.stage c.seek_arms.result
-    (λ rest. c.requires.made rest ∙ if_first nodes site arms c.index-arms-0.result other rest some)
+    (λ rest. c.requires.made rest ∙ if_first nodes site arms c.index-it-0.result other rest some)
     (in_rest nodes level (length c.seek_block.new.below) c.args.point.at (done_seen c.args.point.done) c.args.stage.now mid c.seek_arms.new.stage site false (cond_in (tree_of nodes arm.cond)) (block_made_of nodes arm.body.items) rest_of c.seek_arms.result c.in-None.ensures.stays.count c.in-None.ensures.sought c.seek_arms.ensures.sought)
 
-pub seek_while-returns-in-None-clause-sought : goal.seek_while-returns-in-None-clause-sought
-seek_while-returns-in-None-clause-sought t c =
+pub seek_while-returns-in_err-flow-clause-sought : goal.seek_while-returns-in_err-flow-clause-sought
+seek_while-returns-in_err-flow-clause-sought t c =
     let nodes = c.args.t.now in
     let level = length c.args.below.now in
     let site = site_of nodes c.args.s in
-    let head = head_made (tree_of nodes) (inner_of nodes c.args.s.0) c.args.head.now in
-    let body = block_made_of nodes c.args.body.now.items in
-    sought_like nodes level c.args.point.at (done_seen c.args.point.done) (made_of nodes c.args.s) (λ rest. loop site head body rest) c.args.stage.now c.seek_block.new.stage None c.requires.made
-    (not_inside nodes level c.args.point.at (done_seen c.args.point.done) c.args.stage.now site head body c.seek_block.new.stage c.in-None.ensures.sought)
+    let head = head_made (tree_of nodes) (inner_of nodes c.args.s.0) c.args.it.head.now in
+    let body = block_made_of nodes c.args.it.body.now.items in
+    let P : Option Flow → Type 0 = λ found. SoughtIn nodes level c.args.point.at (done_seen c.args.point.done) (made_of nodes c.args.s) c.args.stage.now found c.seek_block.new.stage in
+    subst P (sym c.from_residual.ensures) (sought_like nodes level c.args.point.at (done_seen c.args.point.done) (made_of nodes c.args.s) (λ rest. loop site head body rest) c.args.stage.now c.seek_block.new.stage None c.requires.made
+    (not_inside nodes level c.args.point.at (done_seen c.args.point.done) c.args.stage.now site head body c.seek_block.new.stage c.in_err-flow.ensures.sought))
 
 pub seek_while-returns-in-Again-clause-sought : goal.seek_while-returns-in-Again-clause-sought
 seek_while-returns-in-Again-clause-sought t c =
     let nodes = c.args.t.now in
     let level = length c.args.below.now in
     let site = site_of nodes c.args.s in
-    let head = head_made (tree_of nodes) (inner_of nodes c.args.s.0) c.args.head.now in
-    let body = block_made_of nodes c.args.body.now.items in
+    let head = head_made (tree_of nodes) (inner_of nodes c.args.s.0) c.args.it.head.now in
+    let body = block_made_of nodes c.args.it.body.now.items in
     let mid = c.seek_block.new.stage in
     let new = c.close_round.new.stage in
     sought_like nodes level c.args.point.at (done_seen c.args.point.done) (made_of nodes c.args.s) (λ rest. loop site head body rest) c.args.stage.now c.run_rounds.new.stage (Some c.run_rounds.result) c.requires.made
-    (inside_again nodes level c.args.point.at (done_seen c.args.point.done) c.args.stage.now site head body c.in-Some.flow mid new c.close_round.result c.in-Some.ensures.sought
+    (inside_again nodes level c.args.point.at (done_seen c.args.point.done) c.args.stage.now site head body c.in_ok-flow.flow mid new c.close_round.result c.in_ok-flow.ensures.sought
     (λ rest behind o h. c.close_round.ensures.rounds level (place_of nodes c.args.s.0) (inner_of nodes c.args.s.0) body rest behind o h) c.in-Again.is c.run_rounds.result c.run_rounds.new.stage
-    (rounds_moved nodes level (length c.seek_block.new.below) site head body new c.run_rounds.new.stage c.run_rounds.result c.in-Some.ensures.stays.count c.run_rounds.ensures.runs))
+    (rounds_moved nodes level (length c.seek_block.new.below) site head body new c.run_rounds.new.stage c.run_rounds.result c.in_ok-flow.ensures.stays.count c.run_rounds.ensures.runs))
 
 pub seek_while-returns-in-Ends-clause-sought : goal.seek_while-returns-in-Ends-clause-sought
 seek_while-returns-in-Ends-clause-sought t c =
     let nodes = c.args.t.now in
     let level = length c.args.below.now in
     let site = site_of nodes c.args.s in
-    let head = head_made (tree_of nodes) (inner_of nodes c.args.s.0) c.args.head.now in
-    let body = block_made_of nodes c.args.body.now.items in
+    let head = head_made (tree_of nodes) (inner_of nodes c.args.s.0) c.args.it.head.now in
+    let body = block_made_of nodes c.args.it.body.now.items in
     let mid = c.seek_block.new.stage in
     let new = c.close_round.new.stage in
     sought_like nodes level c.args.point.at (done_seen c.args.point.done) (made_of nodes c.args.s) (λ rest. loop site head body rest) c.args.stage.now new (Some c.in-Ends.flow) c.requires.made
-    (inside_ends nodes level c.args.point.at (done_seen c.args.point.done) c.args.stage.now site head body c.in-Some.flow mid new c.close_round.result c.in-Some.ensures.sought
+    (inside_ends nodes level c.args.point.at (done_seen c.args.point.done) c.args.stage.now site head body c.in_ok-flow.flow mid new c.close_round.result c.in_ok-flow.ensures.sought
     (λ rest behind o h. c.close_round.ensures.rounds level (place_of nodes c.args.s.0) (inner_of nodes c.args.s.0) body rest behind o h) _ c.in-Ends.is)
 
-pub seek_arms-returns-in-Some-seek_block-clause-sought : goal.seek_arms-returns-in-Some-seek_block-clause-sought
-seek_arms-returns-in-Some-seek_block-clause-sought t c =
+pub seek_arms-loop-i-preserved : goal.seek_arms-loop-i-preserved
+seek_arms-loop-i-preserved t c =
+    let l = c.loop-i in
     let nodes = c.args.t.now in
     let level = length c.args.below.now in
-    let site = site_of nodes c.args.s in
-    let arms = c.args.arms.now in
-    let other = c.args.otherwise.now in
-    let arm = get_or arms c.args.i c.index-arms-i.result in
-    let rest_of = otherwise_made (tree_of nodes) (onto (stmt_makers nodes)) site (drop (c.args.i + 1) arms) other in
-    let found = c.in-Some-seek_block.flow in
-    let one = in_then nodes level c.args.point.at (done_seen c.args.point.done) c.args.stage.now site true (cond_in (tree_of nodes arm.cond)) (block_made_of nodes arm.body.items) rest_of found c.seek_block-2.new.stage c.in-Some-seek_block.ensures.sought in
-    let P : Block → Type 0 = λ b. SoughtBlock nodes level c.args.point.at (done_seen c.args.point.done) b c.args.stage.now (Some found) c.seek_block-2.new.stage in
-    subst P (sym (arms_first nodes site arms c.args.i c.index-arms-i.result other (omega (arith, c.if-i-arms.false)))) (λ behind. one end behind)
+    let done = done_seen c.args.point.done in
+    let mid = c.seek_block.new.stage in
+    let less : l.i < length c.args.it.arms.now = omega (arith, c.loop-i-test.true) in
+    let none = block_moved nodes level (length l.below) c.args.point.at done (block_made_of nodes (get_or c.args.it.arms.now l.i c.index-it-i.result).body.items) c.args.stage.now l.stage None mid l.invariant.stays.count l.invariant.same c.in_default.ensures.sought in
+    record {
+      so_far = λ found new one. l.invariant.so_far found new (after_arm nodes level c.args.point.at done c.args.stage.now (site_of nodes c.args.s) c.args.it.arms.now c.args.it.otherwise.now l.i c.index-it-i.result mid less none found new one);
+      same = (none stop).1;
+      stays = stays_on c.args.below.now l.below c.seek_block.new.below c.args.stage.now l.stage mid l.invariant.stays c.in_default.ensures.stays;
+      ready = ready_after nodes l.below c.seek_block.new.below l.stage mid l.invariant.ready c.in_default.ensures.stays;
+    }
 
-pub seek_arms-returns-in-None-seek_block-clause-sought : goal.seek_arms-returns-in-None-seek_block-clause-sought
-seek_arms-returns-in-None-seek_block-clause-sought t c =
+pub seek_arms-returns-in-Some-clause-sought : goal.seek_arms-returns-in-Some-clause-sought
+seek_arms-returns-in-Some-clause-sought t c =
+    let l = c.loop-i in
+    let nodes = c.args.t.now in
+    let level = length c.args.below.now in
+    let done = done_seen c.args.point.done in
+    let new = c.seek_block.new.stage in
+    let found = c.in-Some.flow in
+    let less : l.i < length c.args.it.arms.now = omega (arith, c.loop-i-test.true) in
+    let one = block_moved nodes level (length l.below) c.args.point.at done _ c.args.stage.now l.stage (Some found) new l.invariant.stays.count l.invariant.same c.in-Some.ensures.sought in
+    l.invariant.so_far (Some found) new (in_arm nodes level c.args.point.at done c.args.stage.now (site_of nodes c.args.s) c.args.it.arms.now c.args.it.otherwise.now l.i c.index-it-i.result found new less one)
+
+pub seek_arms-returns-in_err-block-clause-sought : goal.seek_arms-returns-in_err-block-clause-sought
+seek_arms-returns-in_err-block-clause-sought t c =
+    let l = c.loop-i in
     let nodes = c.args.t.now in
     let level = length c.args.below.now in
     let site = site_of nodes c.args.s in
-    let arms = c.args.arms.now in
-    let other = c.args.otherwise.now in
-    let arm = get_or arms c.args.i c.index-arms-i.result in
-    let mid = c.seek_block-2.new.stage in
-    let rest_of = otherwise_made (tree_of nodes) (onto (stmt_makers nodes)) site (drop (c.args.i + 1) arms) other in
-    let one = in_rest nodes level (length c.seek_block-2.new.below) c.args.point.at (done_seen c.args.point.done) c.args.stage.now mid c.seek_arms.new.stage site true (cond_in (tree_of nodes arm.cond)) (block_made_of nodes arm.body.items) rest_of c.seek_arms.result c.in-None-seek_block.ensures.stays.count c.in-None-seek_block.ensures.sought c.seek_arms.ensures.sought in
-    let P : Block → Type 0 = λ b. SoughtBlock nodes level c.args.point.at (done_seen c.args.point.done) b c.args.stage.now c.seek_arms.result c.seek_arms.new.stage in
-    subst P (sym (arms_first nodes site arms c.args.i c.index-arms-i.result other (omega (arith, c.if-i-arms.false)))) (λ behind. one end behind)
+    let arms = c.args.it.arms.now in
+    let other = c.args.it.otherwise.now in
+    let done = done_seen c.args.point.done in
+    let past : length arms ≤ l.i = omega (arith, c.loop-i-test.false) in
+    let P : Option Flow → Type 0 = λ found. SoughtBlock nodes level c.args.point.at done (otherwise_made (tree_of nodes) (onto (stmt_makers nodes)) site (drop 1 arms) other) c.args.stage.now found l.stage in
+    subst P (sym c.from_residual.ensures) (l.invariant.so_far None l.stage (no_else nodes level c.args.point.at done c.args.stage.now site arms other l.i l.stage past (sym c.in_err-block.ensures.value) l.invariant.same))
+
+pub seek_arms-returns-clause-sought : goal.seek_arms-returns-clause-sought
+seek_arms-returns-clause-sought t c =
+    let l = c.loop-i in
+    let nodes = c.args.t.now in
+    let level = length c.args.below.now in
+    let done = done_seen c.args.point.done in
+    let new = c.seek_block-2.new.stage in
+    let found = c.seek_block-2.result in
+    let past : length c.args.it.arms.now ≤ l.i = omega (arith, c.loop-i-test.false) in
+    let one = block_moved nodes level (length l.below) c.args.point.at done (block_made_of nodes c.in_ok-block.block.now.items) c.args.stage.now l.stage found new l.invariant.stays.count l.invariant.same c.seek_block-2.ensures.sought in
+    l.invariant.so_far found new (in_last nodes level c.args.point.at done c.args.stage.now (site_of nodes c.args.s) c.args.it.arms.now c.args.it.otherwise.now l.i c.in_ok-block.block.now found new past (sym c.in_ok-block.ensures.value) one)
 
 pub seek_call-returns-then-not-suspends_at-clause-sought : goal.seek_call-returns-then-not-suspends_at-clause-sought
 seek_call-returns-then-not-suspends_at-clause-sought t c =

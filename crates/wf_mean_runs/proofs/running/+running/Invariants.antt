@@ -1,13 +1,16 @@
-use Rattle.std.proofs.Common.{◌≡◌, ◌+◌, ◌-◌, ◌*◌, ◌^◌, drop, length}
+use Rattle.std.proofs.Common.{◌≡◌, ◌+◌, ◌*◌, ◌^◌, ℕ, Option, drop, length}
 use Rattle.wf_meaning.specs.SourceState.{Behind, untouched, again}
 use Rattle.wf_ast.specs.TypedTree.{Block}
-use Rattle.wf_ast.specs.TypedTrees.{head_made, tree_of}
+use Rattle.wf_ast.specs.TypedTrees.{head_made, onto, otherwise_made, stmt_makers, tree_of}
 use Rattle.wf_text.specs.declared.place.Place.{Place}
 use Rattle.wf_meaning.specs.Remaining.{Items}
 use Rattle.wf_mean_flows.specs.Flows.{StandsIn, block_made_of, inner_of, run_on, site_of}
 use Rattle.wf_mean_runs.specs.Frames.{AreReady, Stays}
 use Rattle.wf_mean_runs.proofs.running.+running.Given as goal
-use Rattle.wf_mean_exprs.specs.MachineState.{standing_at}
+use Rattle.wf_mean_exprs.specs.MachineState.{done_seen, standing_at}
+use Rattle.wf_mean_stmts.specs.declared.stage.Stage.{Stage}
+use Rattle.wf_mean_flows.specs.declared.flows.Flow.{Flow}
+use Rattle.wf_mean_runs.specs.Seeking.{SoughtBlock}
 
 -- Callees run on fewer frames. On the same frames a search comes before the runs in it, a part of a statement has a smaller number,
 -- and then it goes by the kind of the function.
@@ -60,7 +63,7 @@ abbrev pub decreases-seek_if : goal.decreases-seek_if
 decreases-seek_if l = 2 ^ 104 * length l.below.now + (2 ^ 68 * l.s.0 + 16 * l.s.0 + 2 ^ 66)
 
 abbrev pub decreases-seek_arms : goal.decreases-seek_arms
-decreases-seek_arms l = 2 ^ 104 * length l.below.now + (2 ^ 68 * l.s.0 + 16 * l.s.0 + (2 * (2 ^ 64 - l.i) + 2))
+decreases-seek_arms l = 2 ^ 104 * length l.below.now + (2 ^ 68 * l.s.0 + 16 * l.s.0 + 2)
 
 abbrev pub decreases-seek_while : goal.decreases-seek_while
 decreases-seek_while l = 2 ^ 104 * length l.below.now + (2 ^ 68 * l.s.0 + 16 * l.s.0 + 2 ^ 66)
@@ -79,8 +82,8 @@ invariant-run_block-loop-i l =
 abbrev pub invariant-run_rounds-loop-flow : goal.invariant-run_rounds-loop-flow
 invariant-run_rounds-loop-flow l =
     let site = site_of l.t l.s in
-    let head = head_made (tree_of l.t) (inner_of l.t l.s.0) l.head in
-    let body = block_made_of l.t l.body.items in record {
+    let head = head_made (tree_of l.t) (inner_of l.t l.s.0) l.it.head.now in
+    let body = block_made_of l.t l.it.body.now.items in record {
       runs : (rest : Block) (behind : Behind) → run_on l.t (length l.fn.below) l.fn.stage untouched body (again site head body rest behind) ≡ run_on l.t (length l.fn.below) l.stage untouched body (again site head body rest behind);
       stays : Stays l.fn.below l.below l.fn.stage l.stage;
       ready : AreReady l.t l.below l.stage;
@@ -96,6 +99,18 @@ invariant-seek_block-loop-i l =
     let left = block_made_of l.t (drop l.i l.block.items) in record {
       so_far : (behind : Behind) → standing_at l.point.at all behind ≡ standing_at l.point.at left behind;
       stands : (at : Place) (items : Items) (behind : Behind) → StandsIn at items left behind → StandsIn at items all behind;
+      same : l.stage ≡ l.fn.stage;
+      stays : Stays l.fn.below l.below l.fn.stage l.stage;
+      ready : AreReady l.t l.below l.stage;
+    }
+
+-- What is found from the arm `i` on is found after the first.
+abbrev pub invariant-seek_arms-loop-i : goal.invariant-seek_arms-loop-i
+invariant-seek_arms-loop-i l =
+    let level = length l.fn.below in
+    let done = done_seen l.point.done in
+    let from : ℕ → Block = λ i. otherwise_made (tree_of l.t) (onto (stmt_makers l.t)) (site_of l.t l.s) (drop i l.it.arms.now) l.it.otherwise.now in record {
+      so_far : (found : Option Flow) (new : Stage) → SoughtBlock l.t level l.point.at done (from l.i) l.fn.stage found new → SoughtBlock l.t level l.point.at done (from 1) l.fn.stage found new;
       same : l.stage ≡ l.fn.stage;
       stays : Stays l.fn.below l.below l.fn.stage l.stage;
       ready : AreReady l.t l.below l.stage;
