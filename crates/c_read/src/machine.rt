@@ -19,7 +19,7 @@ use wf_text::NoMemory;
 
 /// What is made so far, and what is still wanted.
 #[derive(Drop)]
-pub struct Machine {
+pub(crate) struct Machine {
     pub maker: Maker,
     pub wants: Stack<Want>,
 }

@@ -5,7 +5,7 @@ ghost use Rattle.std.specs.Prelude.{◌≡◌, ◌^◌, ◌<◌, false};
 use pens::Pen;
 
 /// Counts the bytes of a text, up to 2^64 - 1.
-pub struct LengthPen {
+pub(crate) struct LengthPen {
     pub count: u64,
 }
 

@@ -11,7 +11,7 @@ use std::alloc::Global;
 use wf_text::faults::NoMemory;
 
 /// A walk over the numbers of a graph.
-pub struct Walk {
+pub(crate) struct Walk {
     /// The numbers that were left, in that order.
     pub order: Vec<u32>,
     /// The numbers that lead to the one where the walk is, that one last.

@@ -21,4 +21,3 @@ pub use adding::Full;
 pub use changes::Change;
 pub use forms::Form;
 pub use list::Facts;
-pub use sets::FactSet;

@@ -5,7 +5,7 @@ ghost use Rattle.wf_facts.specs.Sets.{member, members, ArePlaces, IsSetOf, unmar
 
 /// A set of places of a list: bit `i mod 64` of word `i / 64` is that of place `i`.
 #[derive(Clone, Copy)]
-pub struct FactSet {
+pub(crate) struct FactSet {
     pub words: [u64; 8],
 }
 

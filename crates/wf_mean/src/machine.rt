@@ -33,14 +33,14 @@ use wf_text::{MethodId, StatusId};
 /// Where a call's bodies run: a frame for each method, in the package's order of calls, and a stage, which has the struct states
 /// of the call's receiver and the host's buffers and byte arrays while the call runs.
 #[derive(Drop)]
-pub struct Room {
+pub(crate) struct Room {
     pub stage: Stage,
     pub frames: Vec<Frame>,
 }
 
 /// The machine's room and its receivers, by number.
 #[derive(Drop)]
-pub struct Machine {
+pub(crate) struct Machine {
     pub room: Room,
     pub receivers: Vec<ReceiverState>,
 }

@@ -11,7 +11,7 @@ use wf_mean_exprs::objects::{FieldState, KeptBody, LifeState, ObjectState};
 
 /// A receiver as it was declared, with its struct states: its own, and after it those inside it. A null one has none.
 #[derive(Drop)]
-pub struct ReceiverState {
+pub(crate) struct ReceiverState {
     pub decl: ReceiverDecl,
     pub objects: Vec<ObjectState>,
 }

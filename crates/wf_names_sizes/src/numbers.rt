@@ -9,7 +9,7 @@ use wf_base::widths::Width;
 
 /// A number with its width. A literal has none until it stands beside one.
 #[derive(Clone, Copy, PartialEq, Eq)]
-pub struct ConstantValue {
+pub(crate) struct ConstantValue {
     pub width: Option<Width>,
     pub number: u64,
 }

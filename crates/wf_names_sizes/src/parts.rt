@@ -26,14 +26,14 @@ use wf_text::faults::NoMemory;
 
 /// What a field takes: its bytes, of which numbers above 1,048,577 count as that, or the number of the struct that it holds.
 #[derive(Clone, Copy)]
-pub enum Part {
+pub(crate) enum Part {
     Plain(u32),
     Struct(usize),
 }
 
 /// A field of a struct: its name, and what it takes.
 #[derive(Clone, Copy)]
-pub struct FieldPart {
+pub(crate) struct FieldPart {
     pub name: Name,
     pub part: Part,
 }

@@ -20,7 +20,7 @@ use wf_text::{NoMemory, Rule};
 
 /// Why the machine stops.
 #[derive(Clone, Copy)]
-pub enum StepFault {
+pub(crate) enum StepFault {
     /// The token breaks a rule.
     Refused(Rule),
     /// Memory was refused.

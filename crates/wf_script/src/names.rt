@@ -12,7 +12,7 @@ use wf_text::NoMemory;
 
 /// A name with what it stands for.
 #[derive(Drop)]
-pub struct NameDecl {
+pub(crate) struct NameDecl {
     name: Vec<u8>,
     thing: Thing,
 }

@@ -184,7 +184,7 @@ fn arg_named(args: &[ArgDecl], name: &[u8]) -> Option<usize>
 
 /// A word that gives an argument: its number, its kind, and the text of its value.
 #[derive(Clone, Copy)]
-pub struct ArgWord<'a> {
+pub(crate) struct ArgWord<'a> {
     number: usize,
     kind: ArgKind,
     text: &'a [u8],

@@ -13,7 +13,7 @@ use wf_text::{NoMemory, PhaseFault, Place, Refusal, Rule};
 
 /// Why files aren't taken, or a package isn't accepted.
 #[derive(Clone, Copy)]
-pub enum TakingFault {
+pub(crate) enum TakingFault {
     /// They break a rule.
     Refused(Refusal),
     /// The file with this number, from 0, couldn't be taken.
