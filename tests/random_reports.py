@@ -80,7 +80,7 @@ class Writer:
             return min(self.source.choice(EDGES if self.source.random() < .2 else EDGES[:8]), most)
         if of.name == "bool":
             return self.source.choice(["true", "false"])
-        if self.source.random() < .95 and buffers[-1] == "null" and len(buffers) > 1:
+        if self.source.random() < .95 and len(buffers) > 1 and buffers[-1] == "null":
             buffers.pop()
         return buffers.pop() if buffers else "null"
 

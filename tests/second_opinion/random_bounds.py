@@ -175,6 +175,7 @@ class BoundsWriter(NeedsWriter):
     def alias(self):
         """A write to an element of an array through a slice of it."""
         source = self.one_of("this.b[..]", "l[..]", *self.bases()) if self.owner == "s" else self.one_of(*self.bases())
+        source = self.one_of(source, f"this.a[{self.one_of('this.m ..', '.. this.m', 'this.m .. K')}]")
         write = self.one_of(f"l[0] = {self.number(8)}", f"v = l.copy_from_slice!(s: {source})")
         return [f"l = {self.one_of('this.a[..]', 'this.a[.. 1]')}", ["if l.length() > 0 {", Block([write]), "}"]]
 

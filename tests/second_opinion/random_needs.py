@@ -83,7 +83,7 @@ class NeedsWriter:
 
     def flag(self):
         bits = self.one_of(8, 8, 32, 64)
-        flags = ["t", "this.f", "true", "q.is_ok()", "(q == ok)", *(["args.z"] if "z" in self.arguments else []),
+        flags = ["t", "this.f", "true", "q.is_ok()", "(q == ok)", f"({self.one_of(*STATUSES)} {self.one_of('==', '<>')} {self.one_of(*STATUSES)})", *(["args.z"] if "z" in self.arguments else []),
                  *([f"{self.ios()[0]}.is_closed()"] if self.ios()[:1] == ["args.r"] else [])]
         sign, right = self.one_of("<", "<=", "==", "<>", ">=", ">"), self.one_of(self.number(bits), self.literal(bits))
         compared = f"({self.number(bits)} {sign} {right})"
