@@ -1,6 +1,7 @@
 -- What an expression of the source is in C. Its value is the same wherever the source's isn't stuck. A cast stands where C
 -- would calculate in another type than the source, and nowhere else: a byte beside a word is converted by C itself.
-use Rattle.std.specs.Prelude.{ℕ, ◌*◌, Bool, true, false, ◌&&◌, ◌||◌, if◌then◌else◌, nat_eq, nat_le, nat_lt, List, [], ◌∷◌, ◌++◌, Option, None, Some, bytes_eq, codes, decimal}
+use Rattle.std.specs.Prelude.{ℕ, ◌-◌, ◌*◌, ◌^◌, Bool, true, false, ◌&&◌, ◌||◌, if◌then◌else◌, nat_eq, nat_le, nat_lt, List, [], ◌∷◌, ◌++◌, Option, None, Some, bytes_eq, codes, decimal}
+use Rattle.wf_text.specs.declared.place.Place.{Place}
 use Rattle.wf_text.specs.declared.categories.Category.{Category}
 use Rattle.wf_text.specs.declared.categories.Category.TheVariants.{Fine, Note, Suspension, Fault}
 use Rattle.wf_num.specs.declared.c_arithmetic.CTy.{CTy}
@@ -250,10 +251,43 @@ abbrev mutual
 abbrev pub lowered_expr : Names → NumTree → ExprTree
 lowered_expr names t = (lowered names t).code
 
--- The same where it is assigned, passed or returned: C converts it to the type of what takes it.
+-- All ones of 8 or 16 bits, and an or of them, which is all ones whatever else is in it.
+abbrev pub is_ones : (bits : ℕ) → NumTree → Bool
+is_ones bits (number at n) = nat_le bits 16 && nat_eq n (2 ^ bits - 1)
+is_ones bits t = false
+
+abbrev pub is_or : Arith → Bool
+is_or bits_or = true
+is_or op = false
+
+abbrev pub has_ones : (bits : ℕ) → NumTree → Bool
+has_ones bits (number at n) = is_ones bits (number at n)
+has_ones bits (link at sign op own joined a b) = is_or op && (has_ones bits a || has_ones bits b)
+has_ones bits t = false
+
+-- The same where it is assigned, passed or returned: C converts it to the type of what takes it. All ones stand for an or of
+-- them there, since gcc remarks on an or in `int` that becomes a constant when it is converted.
 abbrev pub given : Names → NumTree → ExprTree
 given names (convert at sign bits a) = given names a
+given names (link at sign op bits joined a b) =
+    if has_ones bits (link at sign op bits joined a b) then num (2 ^ bits - 1) else lowered_expr names (link at sign op bits joined a b)
 given names t = lowered_expr names t
+
+-- The same where it is compared. A complement of 8 or 16 bits is there the difference to all ones that it is: gcc takes
+-- `x ^ 255` and `(uint8_t)(255 - x)` for `~x`, and remarks on its being compared.
+abbrev pub difference : (at sign : Place) → Arith → (bits : ℕ) → (left right : NumTree) → NumTree
+difference at sign bits_xor bits a b =
+    if is_ones bits b then link at sign minus bits false b a else if is_ones bits a then link at sign minus bits false a b else link at sign bits_xor bits false a b
+difference at sign mod_minus bits a b = if is_ones bits a then link at sign minus bits false a b else link at sign mod_minus bits false a b
+difference at sign op bits a b = link at sign op bits false a b
+
+abbrev pub compared_as : NumTree → NumTree
+compared_as (link at sign op bits joined a b) = if joined then link at sign op bits joined a b else difference at sign op bits a b
+compared_as (convert at sign bits a) = convert at sign bits (compared_as a)
+compared_as t = t
+
+abbrev pub comparand : Names → NumTree → Rated
+comparand names t = lowered names (compared_as t)
 
 -- Statuses.
 abbrev pub status_constant : ℕ → ExprTree
@@ -321,7 +355,7 @@ category_code Fault e = begins_with 35 e
 abbrev pub lowered_cond : Names → CondTree → ExprTree
 lowered_cond names (truth at b) = num (if b then 1 else 0)
 lowered_cond names (flag at path) = path_code names path
-lowered_cond names (compare at sign a op b) = compared op (lowered_expr names a) (lowered_expr names b)
+lowered_cond names (compare at sign a op b) = compared op (comparand names a).code (comparand names b).code
 lowered_cond names (same_status at sign a one b) = statuses_compared one names a b
 lowered_cond names (junction at both joined a b) = chained joined (if both then Both else Either) (lowered_cond names a) (lowered_cond names b)
 lowered_cond names (negation at a) = unary Not (lowered_cond names a)
