@@ -1,6 +1,7 @@
 -- The law for numbers and slices, by their trees.
-use Rattle.std.proofs.Common.{◌≡◌, ℕ, ◌^◌, ◌<◌, ◌≤◌, Bool, true, false, not, ◌&&◌, ◌||◌, Option, Some, None, refl, ap, ◌∙◌, sym, subst, arith, inl, inr}
-use Rattle.std.specs.Prelude.{if◌then◌else◌, nat_eq, nat_lt, option_map, option_and_then}
+use Rattle.std.proofs.Common.{◌≡◌, ℕ, ◌+◌, ◌-◌, ◌%◌, ◌^◌, ◌<◌, ◌≤◌, Bool, true, false, not, ◌&&◌, ◌||◌, Option, Some, None, refl, ap, ◌∙◌, sym, subst, arith, inl, inr, bit_or}
+use Rattle.std.specs.Prelude.{if◌then◌else◌, nat_eq, nat_le, nat_lt, bit_xor, option_map, option_and_then}
+use Rattle.std.proofs.lemmas.Nat.{le_or_l, le_or_r}
 use Rattle.std.proofs.lemmas.Bool.{and_parts, or_cases}
 use Rattle.std.proofs.lemmas.Bool.Decides.{nat_tests}
 use Rattle.wf_num.specs.declared.c_arithmetic.CTy.{CTy}
@@ -11,7 +12,7 @@ use Rattle.wf_base.specs.BaseTable.{bits_of}
 use Rattle.wf_ast.specs.declared.types.Ty.{Ty}
 use Rattle.wf_ast.specs.declared.types.Ty.TheVariants as types
 use Rattle.wf_text.specs.declared.place.Place.{Place}
-use Rattle.wf_ast.specs.TypedTree.{Path, local, field, arg, NumType, Arith, Question, reader_length, reader_position, peek, writer_length, writer_position, NumTree, number, read, element, link, convert, length_of, asked, SliceTree, slice, array, cut, EndTree, absent, present}
+use Rattle.wf_ast.specs.TypedTree.{Path, local, field, arg, NumType, Arith, plus, minus, times, divided, remainder, shift_left, shift_right, bits_and, bits_or, bits_xor, mod_plus, mod_minus, mod_times, mod_shift_left, sat_plus, sat_minus, Question, reader_length, reader_position, peek, writer_length, writer_position, NumTree, number, read, element, link, convert, length_of, asked, SliceTree, slice, array, cut, EndTree, absent, present}
 use Rattle.wf_ast.specs.TypedPackage.{MethodTree, PackageTree}
 use Rattle.wf_ast.specs.Value.{Span, State, element_of, part_of, fitted, applied, told, io_buffer, value, span_of, end_value}
 use Rattle.wf_ast.specs.WellTyped as well
@@ -21,13 +22,14 @@ use Rattle.c_meaning.specs.declared.values.CValue.{CValue}
 use Rattle.c_meaning.specs.declared.values.CValue.TheVariants.{NullPointer as null_pointer}
 use Rattle.c_meaning.specs.CExprs.{Surroundings}
 use Rattle.wf_exprs.specs.Names.{Names, names_of}
-use Rattle.wf_exprs.specs.Words.{num, uint_of}
-use Rattle.wf_exprs.specs.Exprs.{calculated, rank, Rated, rated, is_held, converted, is_array, asked_code, lowered, given, lowered_slice, lowered_end}
+use Rattle.wf_exprs.specs.Words.{literal, num, uint_of}
+use Rattle.wf_exprs.specs.Exprs.{calculated, rank, Rated, rated, is_held, converted, literal_type, is_ones, has_ones, difference, compared_as, comparand, is_array, asked_code, lowered, given, lowered_slice, lowered_end}
 use Rattle.c_text.specs.CTree.{cast}
 use Rattle.wf_exprs_laws.specs.ExprLaw.{DeclaresOperator, DeclaresQuestion, Declares, DeclaresSlice, DeclaresEnd, GivesPointer, SpanStands, Stands}
-use Rattle.wf_exprs_laws.proofs.CNumbers.{width-limit}
+use Rattle.wf_exprs_laws.proofs.CNumbers.{by_width, width-limit}
 use Rattle.wf_exprs_laws.proofs.Operands.{IsNumber, suffixed-number, literal-number, literal-rank, cast-number}
 use Rattle.wf_exprs_laws.proofs.Links.{fitted-some, applied-below, linked-number}
+use Rattle.wf_exprs_laws.proofs.Ones.{xor-ones, ones-xor}
 use Rattle.wf_exprs_laws.proofs.Pointers.{element-number, IsEnd, part_length-number, part_pointer-gives, part-some, part-stands}
 use Rattle.wf_exprs_laws.proofs.Buffers.{IsBuffer, buffer-some, is_reader_question, reader-type, writer-type, IsAsked, reader-asked, writer-asked}
 
@@ -72,6 +74,9 @@ slice-width bits ty h = absurd (cc h)
 
 same-bits : (a b : NumType) → same_num_type a b ≡ true → b.bits ≡ a.bits
 same-bits a b h = let p = and_parts (nat_eq a.bits b.bits) _ h in grind (arith, nat_tests, p.0)
+
+width-limit-64 : (bits n : ℕ) → is_width bits ≡ true → n < 2 ^ bits → n < 2 ^ 64
+width-limit-64 bits n w h = by_width (λ bits. n < 2 ^ bits → n < 2 ^ 64) bits w (λ l. omega (arith, l)) (λ l. omega (arith, l)) (λ l. omega (arith, l)) (λ l. l) h
 
 -- ---- conversions
 
@@ -288,10 +293,161 @@ module _ (p : PackageTree) (m : MethodTree) (s : State) (x : Surroundings) (st :
     ends absent default n u h e = cc e
     ends (present t) default n u h e = (numbers t n u (and_parts (is_whole_number t) _ h).1 e).is
 
+  -- All ones.
+  ones-value : (bits : ℕ) (t : NumTree) (n : ℕ) → is_ones bits t ≡ true → value s t ≡ Some n → (bits ≤ 16) × (n ≡ 2 ^ bits - 1)
+  ones-value bits (number at k) n h e =
+      let q = and_parts (nat_le bits 16) _ h in
+      let same : k ≡ n = cc e in
+      (grind (arith, nat_tests, q.0), grind (arith, nat_tests, q.1, same))
+  ones-value bits (read at of path) n h e = absurd (cc h)
+  ones-value bits (element at of cells index) n h e = absurd (cc h)
+  ones-value bits (link at sign op own joined a b) n h e = absurd (cc h)
+  ones-value bits (convert at sign own a) n h e = absurd (cc h)
+  ones-value bits (length_of at cells) n h e = absurd (cc h)
+  ones-value bits (asked at question a) n h e = absurd (cc h)
+
+  -- A link of two numbers that is compared.
+  minus-fits : (bits m n : ℕ) → n ≤ m → m < 2 ^ bits → applied minus bits m n ≡ Some (m - n)
+  minus-fits bits m n l f =
+      let below : nat_le n m ≡ true = grind (arith, nat_tests, l) in
+      let few : nat_lt (m - n) (2 ^ bits) ≡ true = grind (arith, nat_tests, f) in
+      rw (below, few) refl
+
+  round-ones : (bits l : ℕ) → is_width bits ≡ true → l < 2 ^ bits → (2 ^ bits - 1 + (2 ^ bits - l)) % 2 ^ bits ≡ 2 ^ bits - 1 - l
+  round-ones bits l w =
+      by_width (λ bits. l < 2 ^ bits → (2 ^ bits - 1 + (2 ^ bits - l)) % 2 ^ bits ≡ 2 ^ bits - 1 - l) bits w (λ j. omega (arith, j)) (λ j. omega (arith, j)) (λ j. omega (arith, j)) (λ j. omega (arith, j))
+
+  difference-gives : (at sign : Place) (op : Arith) (bits : ℕ) (a b : NumTree) (k l n : ℕ) → is_width bits ≡ true → fits bits a ≡ true → (is_shift op || fits bits b) ≡ true
+      → DeclaresOperator x op bits → NumGives a k → NumGives b l → value s a ≡ Some k → value s b ≡ Some l → applied op bits k l ≡ Some n → NumGives (difference at sign op bits a b) n
+  difference-gives at sign bits_xor bits a b k l n w fa fb d g h p q e = by (is_ones bits b) (is_ones bits a) refl refl
+    where
+      f : (bit_xor k l ≡ n) × (n < 2 ^ bits)
+      f = fitted-some bits (bit_xor k l) n e
+
+      left : k < 2 ^ bits
+      left = (g.fitting bits w fa).0
+
+      right : l < 2 ^ bits
+      right = (h.fitting bits w fb).0
+
+      by : (other one : Bool) → is_ones bits b ≡ other → is_ones bits a ≡ one
+          → NumGives (if other then link at sign minus bits false b a else if one then link at sign minus bits false a b else link at sign bits_xor bits false a b) n
+      by true one u v =
+          let it = ones-value bits b l u q in
+          let same : l - k ≡ n = ap (λ l. l - k) it.1 ∙ sym (xor-ones bits k left) ∙ ap (bit_xor k) (sym it.1) ∙ f.0 in
+          link-gives at sign minus bits false b a l k n w fb fa tt h g (minus-fits bits l k (omega (arith, it.1, left)) right ∙ ap Some same)
+      by false true u v =
+          let it = ones-value bits a k v p in
+          let same : k - l ≡ n = ap (λ k. k - l) it.1 ∙ sym (ones-xor bits l right) ∙ ap (λ k. bit_xor k l) (sym it.1) ∙ f.0 in
+          link-gives at sign minus bits false a b k l n w fa fb tt g h (minus-fits bits k l (omega (arith, it.1, right)) left ∙ ap Some same)
+      by false false u v = link-gives at sign bits_xor bits false a b k l n w fa fb tt g h e
+  difference-gives at sign mod_minus bits a b k l n w fa fb d g h p q e = by (is_ones bits a) refl
+    where
+      left : k < 2 ^ bits
+      left = (g.fitting bits w fa).0
+
+      right : l < 2 ^ bits
+      right = (h.fitting bits w fb).0
+
+      by : (one : Bool) → is_ones bits a ≡ one → NumGives (if one then link at sign minus bits false a b else link at sign mod_minus bits false a b) n
+      by true v =
+          let it = ones-value bits a k v p in
+          let come : (k + (2 ^ bits - l)) % 2 ^ bits ≡ n = cc e in
+          let same : k - l ≡ n = ap (λ k. k - l) it.1 ∙ sym (round-ones bits l w right) ∙ ap (λ k. (k + (2 ^ bits - l)) % 2 ^ bits) (sym it.1) ∙ come in
+          link-gives at sign minus bits false a b k l n w fa fb tt g h (minus-fits bits k l (omega (arith, it.1, right)) left ∙ ap Some same)
+      by false v = link-gives at sign mod_minus bits false a b k l n w fa fb tt g h e
+  difference-gives at sign plus bits a b k l n w fa fb d g h p q e = link-gives at sign plus bits false a b k l n w fa fb d g h e
+  difference-gives at sign minus bits a b k l n w fa fb d g h p q e = link-gives at sign minus bits false a b k l n w fa fb d g h e
+  difference-gives at sign times bits a b k l n w fa fb d g h p q e = link-gives at sign times bits false a b k l n w fa fb d g h e
+  difference-gives at sign divided bits a b k l n w fa fb d g h p q e = link-gives at sign divided bits false a b k l n w fa fb d g h e
+  difference-gives at sign remainder bits a b k l n w fa fb d g h p q e = link-gives at sign remainder bits false a b k l n w fa fb d g h e
+  difference-gives at sign shift_left bits a b k l n w fa fb d g h p q e = link-gives at sign shift_left bits false a b k l n w fa fb d g h e
+  difference-gives at sign shift_right bits a b k l n w fa fb d g h p q e = link-gives at sign shift_right bits false a b k l n w fa fb d g h e
+  difference-gives at sign bits_and bits a b k l n w fa fb d g h p q e = link-gives at sign bits_and bits false a b k l n w fa fb d g h e
+  difference-gives at sign bits_or bits a b k l n w fa fb d g h p q e = link-gives at sign bits_or bits false a b k l n w fa fb d g h e
+  difference-gives at sign mod_plus bits a b k l n w fa fb d g h p q e = link-gives at sign mod_plus bits false a b k l n w fa fb d g h e
+  difference-gives at sign mod_times bits a b k l n w fa fb d g h p q e = link-gives at sign mod_times bits false a b k l n w fa fb d g h e
+  difference-gives at sign mod_shift_left bits a b k l n w fa fb d g h p q e = link-gives at sign mod_shift_left bits false a b k l n w fa fb d g h e
+  difference-gives at sign sat_plus bits a b k l n w fa fb d g h p q e = link-gives at sign sat_plus bits false a b k l n w fa fb d g h e
+  difference-gives at sign sat_minus bits a b k l n w fa fb d g h p q e = link-gives at sign sat_minus bits false a b k l n w fa fb d g h e
+
+  -- A number that is compared.
+  pub comparands : (t : NumTree) (n : ℕ) → Declares names s x t → well_part context t ≡ true → value s t ≡ Some n → NumGives (compared_as t) n
+  comparands (link at sign op bits true a b) n u h e = numbers (link at sign op bits true a b) n u h e
+  comparands (link at sign op bits false a b) n u h e =
+      let q = and_parts (is_width bits) _ h in
+      let q_1 = and_parts (fits bits a) _ q.1 in
+      let q_2 = and_parts (is_shift op || fits bits b) _ q_1.1 in
+      let q_3 = and_parts (not false || continues op bits a) _ q_2.1 in
+      let q_4 = and_parts (false || is_whole_number a) _ q_3.1 in
+      let q_5 = and_parts (well_part context a) _ q_4.1 in
+      let c = came (λ m. option_and_then (applied op bits m) (value s b)) (value s a) n e in
+      let d = came (applied op bits c.from) (value s b) n c.gives in
+      difference-gives at sign op bits a b c.from d.from n q.0 q_1.0 q_2.0 u.0 (numbers a c.from u.1.0 q_5.0 c.is) (numbers b d.from u.1.1 (and_parts (is_whole_number b) _ q_5.1).1 d.is) c.is d.is d.gives
+  comparands (convert at sign bits a) n u h e =
+      let q = and_parts (is_width bits) _ h in
+      let c = came (fitted bits) (value s a) n e in
+      convert-gives at sign bits (compared_as a) c.from n q.0 (comparands a c.from u (and_parts (is_whole_number a) _ q.1).1 c.is) c.gives
+  comparands (number at k) n u h e = numbers (number at k) n u h e
+  comparands (read at of path) n u h e = numbers (read at of path) n u h e
+  comparands (element at of cells index) n u h e = numbers (element at of cells index) n u h e
+  comparands (length_of at cells) n u h e = numbers (length_of at cells) n u h e
+  comparands (asked at question a) n u h e = numbers (asked at question a) n u h e
+
+  pub comparand-number : (t : NumTree) (n : ℕ) → Declares names s x t → well_part context t ≡ true → value s t ≡ Some n → IsNumber x (comparand names t).code (comparand names t).ty n
+  comparand-number t n u h e = (comparands t n u h e).is
+
+  -- An or of all ones is no less than they are.
+  has-ones-value : (bits : ℕ) (t : NumTree) (n : ℕ) → has_ones bits t ≡ true → value s t ≡ Some n → n < 2 ^ bits → n ≡ 2 ^ bits - 1
+  has-ones-value bits (number at k) n h e l = (ones-value bits (number at k) n h e).1
+  has-ones-value bits (link at sign bits_or own joined a b) n h e l =
+      let c = came (λ m. option_and_then (applied bits_or own m) (value s b)) (value s a) n e in
+      let d = came (applied bits_or own c.from) (value s b) n c.gives in
+      let f = fitted-some own (bit_or c.from d.from) n d.gives in
+      let one = le_or_l c.from d.from in
+      let other = le_or_r c.from d.from in
+      elim (or_cases (has_ones bits a) (has_ones bits b) h)
+      [ inl p ↦ omega (arith, has-ones-value bits a c.from p c.is (omega (arith, one, f.0, l)), one, f.0, l) | inr p ↦ omega (arith, has-ones-value bits b d.from p d.is (omega (arith, other, f.0, l)), other, f.0, l) ]
+  has-ones-value bits (link at sign plus own joined a b) n h e l = absurd (cc h)
+  has-ones-value bits (link at sign minus own joined a b) n h e l = absurd (cc h)
+  has-ones-value bits (link at sign times own joined a b) n h e l = absurd (cc h)
+  has-ones-value bits (link at sign divided own joined a b) n h e l = absurd (cc h)
+  has-ones-value bits (link at sign remainder own joined a b) n h e l = absurd (cc h)
+  has-ones-value bits (link at sign shift_left own joined a b) n h e l = absurd (cc h)
+  has-ones-value bits (link at sign shift_right own joined a b) n h e l = absurd (cc h)
+  has-ones-value bits (link at sign bits_and own joined a b) n h e l = absurd (cc h)
+  has-ones-value bits (link at sign bits_xor own joined a b) n h e l = absurd (cc h)
+  has-ones-value bits (link at sign mod_plus own joined a b) n h e l = absurd (cc h)
+  has-ones-value bits (link at sign mod_minus own joined a b) n h e l = absurd (cc h)
+  has-ones-value bits (link at sign mod_times own joined a b) n h e l = absurd (cc h)
+  has-ones-value bits (link at sign mod_shift_left own joined a b) n h e l = absurd (cc h)
+  has-ones-value bits (link at sign sat_plus own joined a b) n h e l = absurd (cc h)
+  has-ones-value bits (link at sign sat_minus own joined a b) n h e l = absurd (cc h)
+  has-ones-value bits (read at of path) n h e l = absurd (cc h)
+  has-ones-value bits (element at of cells index) n h e l = absurd (cc h)
+  has-ones-value bits (convert at sign own a) n h e l = absurd (cc h)
+  has-ones-value bits (length_of at cells) n h e l = absurd (cc h)
+  has-ones-value bits (asked at question a) n h e l = absurd (cc h)
+
   -- A number that is assigned: a conversion that C makes by itself stands for nothing.
   pub given-number : (t : NumTree) (n : ℕ) → Declares names s x t → well_part context t ≡ true → value s t ≡ Some n → (ty : CTy) × IsNumber x (given names t) ty n
   given-number (convert at sign bits a) n u h e =
       let q = and_parts (is_width bits) _ h in
       let c = came (fitted bits) (value s a) n e in
       given-number a n u (and_parts (is_whole_number a) _ q.1).1 (c.is ∙ ap Some (fitted-some bits c.from n c.gives).0)
+  given-number (link at sign op bits joined a b) n u h e = by (has_ones bits (link at sign op bits joined a b)) refl
+    where
+      w : is_width bits ≡ true
+      w = (and_parts (is_width bits) _ h).0
+
+      few : n < 2 ^ bits
+      few = ((numbers (link at sign op bits joined a b) n u h e).fitting bits w (grind (arith, nat_tests))).0
+
+      by : (test : Bool) → has_ones bits (link at sign op bits joined a b) ≡ test
+          → (ty : CTy) × IsNumber x (if test then num (2 ^ bits - 1) else (lowered names (link at sign op bits joined a b)).code) ty n
+      by true g =
+          let same : n ≡ 2 ^ bits - 1 = has-ones-value bits (link at sign op bits joined a b) n g e few in
+          let small : n < 2 ^ 64 = width-limit-64 bits n w few in
+          (_, subst (λ k. IsNumber x (num k) (literal_type (literal k)) n) same (literal-number x n small))
+      by false g = ((lowered names (link at sign op bits joined a b)).ty, (numbers (link at sign op bits joined a b) n u h e).is)
   given-number t n u h e = ((lowered names t).ty, (numbers t n u h e).is)
