@@ -1,5 +1,5 @@
 -- What becomes of the trees of nodes in C.
-use Rattle.std.specs.Prelude.{◌&&◌, ℕ, Bool, true, false, if◌then◌else◌, List, [], ◌∷◌, nat_eq, ⊤}
+use Rattle.std.specs.Prelude.{◌&&◌, ◌||◌, ◌-◌, ◌^◌, ℕ, Bool, true, false, if◌then◌else◌, List, [], ◌∷◌, Option, Some, None, nat_eq, ⊤}
 use Rattle.wf_base.specs.declared.marks.Mark.TheVariants.{Pure}
 use Rattle.wf_base.specs.declared.base_methods.BaseSig.{BaseSig}
 use Rattle.wf_base.specs.declared.base_methods.Gives.{Gives}
@@ -8,13 +8,13 @@ use Rattle.wf_base.specs.BaseTable.{row_of}
 use Rattle.wf_ast.specs.WellTyped.{same_mark}
 use Rattle.wf_ast.specs.declared.types.Ty.{Ty}
 use Rattle.wf_ast.specs.declared.types.Ty.TheVariants as types
-use Rattle.wf_ast.specs.TypedTree.{Arith, plus, times, bits_and, bits_or, bits_xor, NumTree, CondTree, ValueTree, numeric, logical, state}
+use Rattle.wf_ast.specs.TypedTree.{Arith, plus, times, bits_and, bits_or, bits_xor, mod_minus, NumTree, CondTree, ValueTree, numeric, logical, state}
 use Rattle.wf_ast.specs.TypedTrees.{OperatorKind, arithmetic, ordering, joining, num_in}
 use Rattle.c_text.specs.declared.ids.CExprId.{CExprId}
 use Rattle.c_text.specs.CNodes.{Nodes}
 use Rattle.c_text.specs.CTree.{ExprTree, cast, Operands, no_operand, operand}
 use Rattle.wf_exprs.specs.Names.{Names}
-use Rattle.wf_exprs.specs.Exprs.{Rated, rated, calculated, place_code, peeked, raised, given, lowered, lowered_expr, lowered_cond, lowered_status}
+use Rattle.wf_exprs.specs.Exprs.{is_or as is_or_arith, has_ones, Rated, rated, calculated, place_code, peeked, raised, given, lowered, lowered_expr, lowered_cond, lowered_status}
 use Rattle.wf_exprs.specs.Grown.{HasExpr}
 use Rattle.wf_exprs.specs.Making.{linked_by}
 use Rattle.wf_exprs.specs.Words.{num, two, uint_of}
@@ -40,6 +40,24 @@ abbrev pub repeats : OperatorKind → Bool
 repeats (arithmetic op) = repeats_arith op
 repeats (joining both) = true
 repeats (ordering op) = false
+
+abbrev pub is_or : OperatorKind → Bool
+is_or (arithmetic op) = is_or_arith op
+is_or sort = false
+
+-- Some operand is an or of all ones, and what stands for one where it is given.
+abbrev pub any_ones : (bits : ℕ) → List NumTree → Bool
+any_ones bits [] = false
+any_ones bits (t ∷ ts) = has_ones bits t || any_ones bits ts
+
+abbrev pub given_by : Names → (bits : ℕ) → NumTree → ExprTree
+given_by names bits t = if has_ones bits t then num (2 ^ bits - 1) else lowered_expr names t
+
+-- Whether a link is a complement, of its left operand or of its right one, by which of them is all ones.
+abbrev pub complement_by : OperatorKind → (one other : Bool) → Option Bool
+complement_by (arithmetic bits_xor) one other = if other then Some true else if one then Some false else None
+complement_by (arithmetic mod_minus) one other = if one then Some false else None
+complement_by sort one other = None
 
 -- A chain on from what stands left of it, operand by operand.
 abbrev pub chain_on : Names → OperatorKind → (bits : ℕ) → Rated → List NumTree → Rated

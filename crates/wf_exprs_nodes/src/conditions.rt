@@ -12,14 +12,14 @@ ghost use Rattle.c_text.specs.CNodes.{expr_of};
 ghost use Rattle.c_text.specs.CTree as c;
 ghost use Rattle.c_text.specs.declared.kinds.COp.TheVariants.{Ne};
 ghost use Rattle.c_text.specs.declared.kinds.CUnary.TheVariants.{Not};
-ghost use Rattle.wf_exprs.specs.Exprs.{category_code, compared as compared_code, constants_compared as constants_compared_code, held_compared as held_compared_code, lowered_cond, lowered_expr, lowered_status, same_code, statuses_compared as statuses_compared_code};
+ghost use Rattle.wf_exprs.specs.Exprs.{category_code, comparand as comparand_of, compared as compared_code, constants_compared as constants_compared_code, held_compared as held_compared_code, lowered_cond, lowered_status, same_code, statuses_compared as statuses_compared_code};
 ghost use Rattle.wf_exprs.specs.Grown.{Grows, HasExpr};
 ghost use Rattle.wf_exprs.specs.Scopes.{path_of};
 ghost use Rattle.wf_exprs.specs.Words.{num, two as two_trees};
 ghost use Rattle.wf_exprs_nodes.specs.Trees.{answers_truth};
 
 use crate::chains::{joins, operation};
-use crate::numbers::number;
+use crate::comparands::comparand;
 use crate::statuses::{constant_number, is_constant, is_of_category, status};
 use c_text::{CExprId, CList, COp, Unit};
 use std::alloc::Global;
@@ -203,10 +203,10 @@ fn numbers_compared(
     requires left { IsTrue (is_number_at scope.now.nodes a) }
     requires right { IsTrue (is_number_at scope.now.nodes b) }
     ensures grows { Grows u.old u.new }
-    ensures made { IfOk result (λ it. HasExpr u.new it.0 (compared_code (order_in (operator_kind op)) (lowered_expr scope.now.names (node_number scope.now.nodes a)) (lowered_expr scope.now.names (node_number scope.now.nodes b)))) }
+    ensures made { IfOk result (λ it. HasExpr u.new it.0 (compared_code (order_in (operator_kind op)) (comparand_of scope.now.names (node_number scope.now.nodes a)).code (comparand_of scope.now.names (node_number scope.now.nodes b)).code)) }
 {
-    let left = number(scope, u, a)?;
-    let right = number(scope, u, b)?;
+    let left = comparand(scope, u, a)?;
+    let right = comparand(scope, u, b)?;
     compared(scope.alloc(), u, op, left.code, right.code)
 }
 

@@ -1,6 +1,6 @@
 // Numbers and slices. The recursion goes as deep as nodes stand inside one another; the operands of a chain stand side by side.
 
-ghost use Rattle.std.specs.Prelude.{◌≡◌, ◌<◌, true, false, nat_lt, length, map, IsTrue, IfOk};
+ghost use Rattle.std.specs.Prelude.{◌≡◌, ◌<◌, ◌-◌, ◌^◌, true, false, nat_le, nat_lt, length, map, IsTrue, IfOk};
 ghost use Rattle.std.specs.List.{list_all};
 ghost use Rattle.wf_base.specs.BaseTable.{bits_of, row_of};
 ghost use Rattle.wf_ast.specs.TypedTree.{field, cut as cut_tree, element as element_tree, convert};
@@ -8,14 +8,14 @@ ghost use Rattle.wf_ast.specs.TypedTrees.{answer_of, chain_of, end_in, first_sig
 ghost use Rattle.wf_ast.specs.TypedInvariant.{has_kind, is_expr};
 ghost use Rattle.wf_ast.specs.NodeKinds.{is_number_at, is_slice_at, end_fits, node_number, node_slice};
 ghost use Rattle.wf_ast.specs.OperatorForms.{is_arithmetic};
-ghost use Rattle.wf_exprs.specs.Exprs.{given as given_code, is_array, literal_type as type_of_literal, lowered, lowered_end, lowered_expr, lowered_slice, path_code, path_pair as pair_of_path, rated};
+ghost use Rattle.wf_exprs.specs.Exprs.{given as given_code, has_ones as has_ones_tree, is_array, is_ones as is_ones_tree, literal_type as type_of_literal, lowered, lowered_end, lowered_slice, path_code, path_pair as pair_of_path, rated};
 ghost use Rattle.wf_exprs.specs.Grown.{Grows, HasExpr};
 ghost use Rattle.wf_exprs.specs.Making.{HasEnd, HasPair, HasRated};
 ghost use Rattle.wf_exprs.specs.Names.{Names};
 ghost use Rattle.wf_exprs.specs.Scopes.{path_of};
 ghost use Rattle.wf_exprs.specs.Words.{literal as literal_of, num};
 ghost use Rattle.wf_num.specs.declared.c_arithmetic.CTy.TheVariants.{Int};
-ghost use Rattle.wf_exprs_nodes.specs.Trees.{answers_number, repeats as repeats_sort};
+ghost use Rattle.wf_exprs_nodes.specs.Trees.{answers_number, given_by, is_or as is_or_sort, repeats as repeats_sort};
 
 use crate::asking::{bytes_left, peek, position};
 use crate::chains::{link, number_operation, repeats};
@@ -68,7 +68,7 @@ pub(crate) fn constant(u: &mut Unit, n: u64) -> Result<Rated, NoMemory>
 }
 
 // The width of a number's type.
-fn width_of(t: &Typed, e: ExprId) -> Width
+pub(crate) fn width_of(t: &Typed, e: ExprId) -> Width
     requires { IsTrue (is_number_at t.now e) }
     ensures { bits_of result ≡ (num_type (type_of_node t.now e.0)).bits }
 {
@@ -417,11 +417,102 @@ pub fn lower_slice(scope: &BodyNames, u: &mut Unit, e: ExprId) -> Result<Pair, N
     Ok(cells.pair)
 }
 
+// All ones of a width.
+fn ones(width: Width) -> u64
+    ensures { result ≡ 2 ^ bits_of width - 1 }
+{
+    match width {
+        Width::W8 => 255,
+        Width::W16 => 65535,
+        Width::W32 => 4294967295,
+        Width::W64 => 18446744073709551615,
+    }
+}
+
+// Whether C calculates with this width in `int`.
+fn is_small(width: Width) -> bool
+    ensures { result ≡ nat_le (bits_of width) 16 }
+{
+    match width {
+        Width::W8 | Width::W16 => true,
+        Width::W32 | Width::W64 => false,
+    }
+}
+
+/// Whether a number is all ones of this width, and that is 8 or 16.
+pub(crate) fn is_ones(t: &Typed, width: Width, e: ExprId) -> bool
+    requires { IsTrue (is_number_at t.now e) }
+    ensures { result ≡ is_ones_tree (bits_of width) (node_number t.now e) }
+{
+    let expr = t.expr(e);
+    match t.constant(e) {
+        Some(n) => is_small(width) && n == ones(width),
+        None => match expr {
+            Expr::Chain { .. } => false,
+            Expr::Local(_) | Expr::Field(_) | Expr::Arg(_) => false,
+            Expr::Index { .. } | Expr::Convert { .. } => false,
+            Expr::Base { .. } => false,
+            Expr::Number(_) | Expr::Const(_) | Expr::Status(_) => unreachable!(),
+            Expr::Truth(_) | Expr::Cut { .. } | Expr::Not(_) => unreachable!(),
+        },
+    }
+}
+
+/// Whether a number is all ones of this width, or an or of them.
+#[cycle(ones)]
+fn has_ones(t: &Typed, width: Width, e: ExprId) -> bool
+    requires { IsTrue (is_number_at t.now e) }
+    ensures { result ≡ has_ones_tree (bits_of width) (node_number t.now e) }
+{
+    let expr = t.expr(e);
+    match t.constant(e) {
+        Some(n) => is_small(width) && n == ones(width),
+        None => match expr {
+            Expr::Chain { op, parts } => joins_ones(t, width, e, *op, parts.as_slice()),
+            Expr::Local(_) | Expr::Field(_) | Expr::Arg(_) => false,
+            Expr::Index { .. } | Expr::Convert { .. } => false,
+            Expr::Base { .. } => false,
+            Expr::Number(_) | Expr::Const(_) | Expr::Status(_) => unreachable!(),
+            Expr::Truth(_) | Expr::Cut { .. } | Expr::Not(_) => unreachable!(),
+        },
+    }
+}
+
+// Whether a chain is an or of all ones.
+#[cycle(ones)]
+fn joins_ones(t: &Typed, width: Width, e: ExprId, op: Op, parts: &[ExprId]) -> bool
+    requires tree { tree_of t.now e ≡ chain_of (place_of_node t.now e.0) (signs_of_node t.now e.0) (type_of_node t.now e.0) (operator_kind op) (map (tree_of t.now) parts.now) }
+    requires below { IsTrue (list_all (λ p. nat_lt p.0 e.0) parts.now) }
+    requires arithmetic { IsTrue (is_arithmetic (operator_kind op)) }
+    requires numbers { IsTrue (list_all (is_number_at t.now) parts.now) }
+    requires some { 1 < length parts.now }
+    ensures { result ≡ has_ones_tree (bits_of width) (node_number t.now e) }
+{
+    if !is_or(op) {
+        return false;
+    }
+    for i in 0..parts.len() {
+        if has_ones(t, width, parts[i]) {
+            return true;
+        }
+    }
+    false
+}
+
+fn is_or(op: Op) -> bool
+    ensures { result ≡ is_or_sort (operator_kind op) }
+{
+    match op {
+        Op::BitOr => true,
+        _ => false,
+    }
+}
+
 // What is converted, however often.
 fn unconverted(t: &Typed, e: ExprId) -> ExprId
     requires { IsTrue (is_number_at t.now e) }
     ensures node { IsTrue (is_number_at t.now result) }
-    ensures given { (names : Names) → given_code names (node_number t.now e) ≡ lowered_expr names (node_number t.now result) }
+    ensures given { (names : Names) → given_code names (node_number t.now e) ≡ given_by names (num_type (type_of_node t.now result.0)).bits (node_number t.now result) }
 {
     let expr = t.expr(e);
     match t.constant(e) {
@@ -443,6 +534,12 @@ pub fn given(scope: &BodyNames, u: &mut Unit, e: ExprId) -> Result<CExprId, NoMe
     ensures grows { Grows u.old u.new }
     ensures made { IfOk result (λ it. HasExpr u.new it.0 (given_code scope.now.names (node_number scope.now.nodes e))) }
 {
-    let a = number(scope, u, unconverted(scope.typed(), e))?;
+    let t = scope.typed();
+    let it = unconverted(t, e);
+    let width = width_of(t, it);
+    if has_ones(t, width, it) {
+        return wf_exprs::nodes::number(u, ones(width));
+    }
+    let a = number(scope, u, it)?;
     Ok(a.code)
 }

@@ -1,5 +1,5 @@
 -- How many brackets an expression opens: no more than five for each that stands inside another.
-use Rattle.std.proofs.Common.{◌≡◌, ℕ, ◌+◌, ◌-◌, ◌*◌, ◌≤◌, Bool, true, false, ◌&&◌, ◌||◌, List, Option, Some, None, nat_eq, refl, sym, subst, arith}
+use Rattle.std.proofs.Common.{◌≡◌, ℕ, ◌+◌, ◌-◌, ◌*◌, ◌^◌, ◌≤◌, Bool, true, false, ◌&&◌, ◌||◌, List, Option, Some, None, nat_eq, refl, sym, subst, arith}
 use Rattle.std.specs.Prelude.{if◌then◌else◌, nat_le, nat_lt}
 use Rattle.std.proofs.lemmas.Bool.Decides.{nat_tests}
 use Rattle.std.proofs.lemmas.Slice.Eq.{bytes_eq-Decides}
@@ -22,7 +22,7 @@ use Rattle.c_text.specs.CTree as c
 use Rattle.wf_exprs.specs.Names.{Names}
 use Rattle.wf_exprs.specs.Words.{num, uint_of, two}
 use Rattle.wf_ast.specs.Value.{same_truth}
-use Rattle.wf_exprs.specs.Exprs.{calculated, rank, Rated, rated, recast, firm, balanced, op_of, with_operand, same_op, chained, saturated, cut_off, factor, linked, converted, path_code, Pair, path_pair, is_array, moved, part_pointer, part_length, place_code, bytes_code, peeked, raised, peek_code, asked_code, lowered, lowered_slice, lowered_end, given, status_constant, lowered_status, same_code, is_literal, is_held, compared, is_constant, constant_number, constants_compared, held_compared, statuses_compared, begins_with, category_code, lowered_cond}
+use Rattle.wf_exprs.specs.Exprs.{calculated, rank, Rated, rated, recast, firm, balanced, op_of, with_operand, same_op, chained, saturated, cut_off, factor, linked, converted, path_code, Pair, path_pair, is_array, moved, part_pointer, part_length, place_code, bytes_code, peeked, raised, peek_code, asked_code, lowered, lowered_slice, lowered_end, has_ones, is_ones, difference, comparand, given, status_constant, lowered_status, same_code, is_literal, is_held, compared, is_constant, constant_number, constants_compared, held_compared, statuses_compared, begins_with, category_code, lowered_cond}
 use Rattle.wf_lower_laws.specs.BracketLaw.{repeats, goes_on, cond_goes_on, num_within, slice_within, end_within, cond_within}
 use Rattle.wf_lower_laws.proofs.Apart.{same_number}
 use Rattle.wf_lower_laws.proofs.OpenBrackets.{ExprOpens, OperandsOpen}
@@ -481,11 +481,56 @@ module _ (names : Names) where
     end_by d absent h = tt
     end_by d (present e) h = num_by d e h
 
+  -- A link that is compared opens no more than its operands.
+  difference_by : (d : ℕ) (at sign : Place) (op : Arith) (bits : ℕ) (a b : NumTree) → 1 ≤ d → ExprBy (5 * (d - 1) + 5) (lowered names a).code → ExprBy (5 * (d - 1) + 5) (lowered names b).code
+      → ExprBy (5 * d + 5) (lowered names (difference at sign op bits a b)).code
+  difference_by d at sign bits_xor bits a b l h j = by (is_ones bits b) (is_ones bits a)
+    where
+      by : (other one : Bool) → ExprBy (5 * d + 5) (lowered names (if other then link at sign minus bits false b a else if one then link at sign minus bits false a b else link at sign bits_xor bits false a b)).code
+      by true one = by_linked (5 * (d - 1) + 5) (5 * d + 5) minus bits false (lowered names b) (lowered names a) (omega (arith, l)) j h
+      by false true = by_linked (5 * (d - 1) + 5) (5 * d + 5) minus bits false (lowered names a) (lowered names b) (omega (arith, l)) h j
+      by false false = by_linked (5 * (d - 1) + 5) (5 * d + 5) bits_xor bits false (lowered names a) (lowered names b) (omega (arith, l)) h j
+  difference_by d at sign mod_minus bits a b l h j = by (is_ones bits a)
+    where
+      by : (one : Bool) → ExprBy (5 * d + 5) (lowered names (if one then link at sign minus bits false a b else link at sign mod_minus bits false a b)).code
+      by true = by_linked (5 * (d - 1) + 5) (5 * d + 5) minus bits false (lowered names a) (lowered names b) (omega (arith, l)) h j
+      by false = by_linked (5 * (d - 1) + 5) (5 * d + 5) mod_minus bits false (lowered names a) (lowered names b) (omega (arith, l)) h j
+  difference_by d at sign plus bits a b l h j = by_linked (5 * (d - 1) + 5) (5 * d + 5) plus bits false (lowered names a) (lowered names b) (omega (arith, l)) h j
+  difference_by d at sign minus bits a b l h j = by_linked (5 * (d - 1) + 5) (5 * d + 5) minus bits false (lowered names a) (lowered names b) (omega (arith, l)) h j
+  difference_by d at sign times bits a b l h j = by_linked (5 * (d - 1) + 5) (5 * d + 5) times bits false (lowered names a) (lowered names b) (omega (arith, l)) h j
+  difference_by d at sign divided bits a b l h j = by_linked (5 * (d - 1) + 5) (5 * d + 5) divided bits false (lowered names a) (lowered names b) (omega (arith, l)) h j
+  difference_by d at sign remainder bits a b l h j = by_linked (5 * (d - 1) + 5) (5 * d + 5) remainder bits false (lowered names a) (lowered names b) (omega (arith, l)) h j
+  difference_by d at sign shift_left bits a b l h j = by_linked (5 * (d - 1) + 5) (5 * d + 5) shift_left bits false (lowered names a) (lowered names b) (omega (arith, l)) h j
+  difference_by d at sign shift_right bits a b l h j = by_linked (5 * (d - 1) + 5) (5 * d + 5) shift_right bits false (lowered names a) (lowered names b) (omega (arith, l)) h j
+  difference_by d at sign bits_and bits a b l h j = by_linked (5 * (d - 1) + 5) (5 * d + 5) bits_and bits false (lowered names a) (lowered names b) (omega (arith, l)) h j
+  difference_by d at sign bits_or bits a b l h j = by_linked (5 * (d - 1) + 5) (5 * d + 5) bits_or bits false (lowered names a) (lowered names b) (omega (arith, l)) h j
+  difference_by d at sign mod_plus bits a b l h j = by_linked (5 * (d - 1) + 5) (5 * d + 5) mod_plus bits false (lowered names a) (lowered names b) (omega (arith, l)) h j
+  difference_by d at sign mod_times bits a b l h j = by_linked (5 * (d - 1) + 5) (5 * d + 5) mod_times bits false (lowered names a) (lowered names b) (omega (arith, l)) h j
+  difference_by d at sign mod_shift_left bits a b l h j = by_linked (5 * (d - 1) + 5) (5 * d + 5) mod_shift_left bits false (lowered names a) (lowered names b) (omega (arith, l)) h j
+  difference_by d at sign sat_plus bits a b l h j = by_linked (5 * (d - 1) + 5) (5 * d + 5) sat_plus bits false (lowered names a) (lowered names b) (omega (arith, l)) h j
+  difference_by d at sign sat_minus bits a b l h j = by_linked (5 * (d - 1) + 5) (5 * d + 5) sat_minus bits false (lowered names a) (lowered names b) (omega (arith, l)) h j
+
+  pub comparand_by : (d : ℕ) (t : NumTree) → num_within d t ≡ true → ExprBy (5 * d + 5) (comparand names t).code
+  comparand_by d (number at n) h = num_by d (number at n) h
+  comparand_by d (read at of path) h = num_by d (read at of path) h
+  comparand_by d (element at of cells index) h = num_by d (element at of cells index) h
+  comparand_by d (link at sign op bits true a b) h = num_by d (link at sign op bits true a b) h
+  comparand_by d (link at sign op bits false a b) h =
+      let p = both_true (nat_le 1 d) (num_within (d - 1) a && num_within (d - 1) b) h in
+      let q = both_true (num_within (d - 1) a) (num_within (d - 1) b) p.1 in
+      difference_by d at sign op bits a b (at_least_one d p.0) (num_by (d - 1) a q.0) (num_by (d - 1) b q.1)
+  comparand_by d (convert at sign bits a) h =
+      let p = both_true (nat_le 1 d) (num_within (d - 1) a) h in
+      by_converted (5 * (d - 1) + 5) (5 * d + 5) bits (comparand names a) (omega (arith, at_least_one d p.0)) (omega arith) (comparand_by (d - 1) a p.1)
+  comparand_by d (length_of at cells) h = num_by d (length_of at cells) h
+  comparand_by d (asked at question a) h = num_by d (asked at question a) h
+
   pub given_by : (d : ℕ) (t : NumTree) → num_within d t ≡ true → ExprBy (5 * d + 5) (given names t)
   given_by d (number at n) h = num_by d (number at n) h
   given_by d (read at of path) h = num_by d (read at of path) h
   given_by d (element at of cells index) h = num_by d (element at of cells index) h
-  given_by d (link at sign op bits joined a b) h = num_by d (link at sign op bits joined a b) h
+  given_by d (link at sign op bits joined a b) h =
+      by_if (5 * d + 5) (has_ones bits (link at sign op bits joined a b)) (num (2 ^ bits - 1)) _ (by_num (5 * d + 5) (2 ^ bits - 1)) (num_by d (link at sign op bits joined a b) h)
   given_by d (convert at sign bits a) h = by_more (5 * (d - 1) + 5) (5 * d + 5) _ (omega arith) (given_by (d - 1) a (both_true (nat_le 1 d) (num_within (d - 1) a) h).1)
   given_by d (length_of at cells) h = num_by d (length_of at cells) h
   given_by d (asked at question a) h = num_by d (asked at question a) h
@@ -582,7 +627,7 @@ module _ (names : Names) where
   cond_by d (compare at sign a op b) h =
       let p = both_true (nat_le 1 d) (num_within (d - 1) a && num_within (d - 1) b) h in
       let q = both_true (num_within (d - 1) a) (num_within (d - 1) b) p.1 in
-      by_compared (5 * (d - 1) + 5) (5 * d + 5) op _ _ (omega (arith, at_least_one d p.0)) (num_by (d - 1) a q.0) (num_by (d - 1) b q.1)
+      by_compared (5 * (d - 1) + 5) (5 * d + 5) op _ _ (omega (arith, at_least_one d p.0)) (comparand_by (d - 1) a q.0) (comparand_by (d - 1) b q.1)
   cond_by d (same_status at sign a one b) h = by_statuses (5 * d + 5) one a b (omega arith)
   cond_by d (junction at both joined a b) h =
       let p = both_true (nat_le 1 d) (cond_within (if joined && cond_goes_on both a then d else d - 1) a && cond_within (d - 1) b) h in

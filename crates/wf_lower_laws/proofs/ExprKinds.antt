@@ -8,6 +8,7 @@ use Rattle.wf_base.specs.declared.base_methods.PeekForm.{PeekForm}
 use Rattle.wf_base.specs.declared.base_methods.PeekForm.TheVariants.{PeekU8, PeekU16Le, PeekU32Le}
 use Rattle.wf_text.specs.declared.categories.Category.{Category}
 use Rattle.wf_text.specs.declared.categories.Category.TheVariants.{Fine, Note, Suspension, Fault}
+use Rattle.wf_text.specs.declared.place.Place.{Place}
 use Rattle.wf_ast.specs.TypedTree.{arg, Arith, plus, minus, times, divided, remainder, shift_left, shift_right, bits_and, bits_or, bits_xor, mod_plus, mod_minus, mod_times, mod_shift_left, sat_plus, sat_minus, Order, less, at_most, equal, differs, at_least, greater, Question, reader_length, reader_position, peek, writer_length, writer_position, NumType, NumTree, number, read, element, link, convert, length_of, asked, SliceTree, slice, array, cut, EndTree, absent, present, StatusTree, status, held, no_status, CondTree, truth, flag, compare, same_status, junction, negation, closed, has_category}
 use Rattle.wf_ast.specs.Value.{same_truth}
 use Rattle.wf_ast.specs.WellTyped.{Context, type_at, is_width, is_range, is_number, is_array, may_ask, is_shift, fits, continues, is_whole_number, same_num_type, element_type, is_unrefined, well_num, well_part, well_slice, well_end, well_status, well_cond}
@@ -24,7 +25,7 @@ use Rattle.c_meaning.specs.CValues.{common}
 use Rattle.c_meaning.specs.CTypes.{CScope, promoted, ExprType, numbers, points_to, zero_literal, byte, as_number, arithmetic_type, sum_type, one_type, test_type, operation_type, operations_type, type_of, operand_types, cast_from, literal_type}
 use Rattle.wf_exprs.specs.Names.{Names}
 use Rattle.wf_exprs.specs.Words.{literal, num, uint_of, width_of, two}
-use Rattle.wf_exprs.specs.Exprs.{calculated, rank, Rated, rated, recast, firm, balanced, with_operand, same_op, chained, cut_off, factor, linked, converted, is_held, is_array as is_whole, moved, part_pointer, part_length, io_code, place_code, end_code, bytes_code, peeked, raised, peek_code, asked_code, same_code, compared, is_literal, is_constant, constant_number, constants_compared, held_compared, statuses_compared, begins_with, category_code, lowered, lowered_slice, lowered_end, lowered_status, lowered_cond}
+use Rattle.wf_exprs.specs.Exprs.{calculated, rank, Rated, rated, recast, firm, balanced, with_operand, same_op, chained, cut_off, factor, linked, converted, is_held, is_array as is_whole, moved, part_pointer, part_length, io_code, place_code, end_code, bytes_code, peeked, raised, peek_code, asked_code, same_code, compared, is_literal, is_constant, constant_number, constants_compared, held_compared, statuses_compared, begins_with, category_code, lowered, lowered_slice, lowered_end, is_ones, difference, comparand, lowered_status, lowered_cond}
 use Rattle.wf_lower_laws.specs.KindLaw.{IsNum, IsPointer, IsText, IsBuffer, Declares, has_op, has_question, num_served, slice_served, end_served, status_served, cond_served, ExpressionsKeepKinds}
 
 module _ (S : CScope) where
@@ -358,6 +359,55 @@ module _ (S : CScope) where
       end_kind absent w s = tt
       end_kind (present e) w s = number_kind e (both_true (is_whole_number e) (well_part x e) w).1 s
 
+    difference_kind : (at sign : Place) (op : Arith) (bits : ℕ) (a b : NumTree) → has_op has op bits ≡ true → IsNum S (lowered names a).code → IsNum S (lowered names b).code → IsNum S (lowered names (difference at sign op bits a b)).code
+    difference_kind at sign bits_xor bits a b g h j = by (is_ones bits b) (is_ones bits a)
+      where
+        by : (other one : Bool) → IsNum S (lowered names (if other then link at sign minus bits false b a else if one then link at sign minus bits false a b else link at sign bits_xor bits false a b)).code
+        by true one = linked_kind minus bits false (lowered names b) (lowered names a) refl j h
+        by false true = linked_kind minus bits false (lowered names a) (lowered names b) refl h j
+        by false false = linked_kind bits_xor bits false (lowered names a) (lowered names b) g h j
+    difference_kind at sign mod_minus bits a b g h j = by (is_ones bits a)
+      where
+        by : (one : Bool) → IsNum S (lowered names (if one then link at sign minus bits false a b else link at sign mod_minus bits false a b)).code
+        by true = linked_kind minus bits false (lowered names a) (lowered names b) refl h j
+        by false = linked_kind mod_minus bits false (lowered names a) (lowered names b) g h j
+    difference_kind at sign plus bits a b g h j = linked_kind plus bits false (lowered names a) (lowered names b) g h j
+    difference_kind at sign minus bits a b g h j = linked_kind minus bits false (lowered names a) (lowered names b) g h j
+    difference_kind at sign times bits a b g h j = linked_kind times bits false (lowered names a) (lowered names b) g h j
+    difference_kind at sign divided bits a b g h j = linked_kind divided bits false (lowered names a) (lowered names b) g h j
+    difference_kind at sign remainder bits a b g h j = linked_kind remainder bits false (lowered names a) (lowered names b) g h j
+    difference_kind at sign shift_left bits a b g h j = linked_kind shift_left bits false (lowered names a) (lowered names b) g h j
+    difference_kind at sign shift_right bits a b g h j = linked_kind shift_right bits false (lowered names a) (lowered names b) g h j
+    difference_kind at sign bits_and bits a b g h j = linked_kind bits_and bits false (lowered names a) (lowered names b) g h j
+    difference_kind at sign bits_or bits a b g h j = linked_kind bits_or bits false (lowered names a) (lowered names b) g h j
+    difference_kind at sign mod_plus bits a b g h j = linked_kind mod_plus bits false (lowered names a) (lowered names b) g h j
+    difference_kind at sign mod_times bits a b g h j = linked_kind mod_times bits false (lowered names a) (lowered names b) g h j
+    difference_kind at sign mod_shift_left bits a b g h j = linked_kind mod_shift_left bits false (lowered names a) (lowered names b) g h j
+    difference_kind at sign sat_plus bits a b g h j = linked_kind sat_plus bits false (lowered names a) (lowered names b) g h j
+    difference_kind at sign sat_minus bits a b g h j = linked_kind sat_minus bits false (lowered names a) (lowered names b) g h j
+
+    comparand_kind : (t : NumTree) → well_part x t ≡ true → num_served has reads t ≡ true → IsNum S (comparand names t).code
+    comparand_kind (link at sign op bits true a b) w s = number_kind (link at sign op bits true a b) w s
+    comparand_kind (link at sign op bits false a b) w s =
+        let p = (both_true (is_width bits) _ w).1 in
+        let q = (both_true (fits bits a) _ p).1 in
+        let r = (both_true (is_shift op || fits bits b) _ q).1 in
+        let u = (both_true (not false || continues op bits a) _ r).1 in
+        let v = (both_true (false || is_whole_number a) _ u).1 in
+        let y = both_true (well_part x a) _ v in
+        let z = both_true (is_whole_number b) (well_part x b) y.1 in
+        let m = both_true (has_op has op bits) (num_served has reads a && num_served has reads b) s in
+        let n = both_true (num_served has reads a) (num_served has reads b) m.1 in
+        difference_kind at sign op bits a b m.0 (number_kind a y.0 n.0) (number_kind b z.1 n.1)
+    comparand_kind (convert at sign bits a) w s =
+        let p = (both_true (is_width bits) _ w).1 in
+        converted_kind bits (comparand names a) (comparand_kind a (both_true (is_whole_number a) (well_part x a) p).1 s)
+    comparand_kind (number at n) w s = number_kind (number at n) w s
+    comparand_kind (read at of path) w s = number_kind (read at of path) w s
+    comparand_kind (element at of cells index) w s = number_kind (element at of cells index) w s
+    comparand_kind (length_of at cells) w s = number_kind (length_of at cells) w s
+    comparand_kind (asked at question a) w s = number_kind (asked at question a) w s
+
     status_kind : (t : StatusTree) → well_status x t ≡ true → status_served knows t ≡ true → IsText S (lowered_status names t)
     status_kind (status at n) w s = d.constants n s
     status_kind (held at path) w s = inr (d.statuses path w)
@@ -381,7 +431,7 @@ module _ (S : CScope) where
         let p = (both_true _ (well_num x a && well_num x b) w).1 in
         let q = both_true (well_num x a) (well_num x b) p in
         let u = both_true (num_served has reads a) (num_served has reads b) s in
-        compared_kind op _ _ (number_kind a (both_true (is_whole_number a) (well_part x a) q.0).1 u.0) (number_kind b (both_true (is_whole_number b) (well_part x b) q.1).1 u.1)
+        compared_kind op _ _ (comparand_kind a (both_true (is_whole_number a) (well_part x a) q.0).1 u.0) (comparand_kind b (both_true (is_whole_number b) (well_part x b) q.1).1 u.1)
     condition_kind (same_status at sign a one b) w s =
         let p = both_true (well_status x a) (well_status x b) w in
         let u = both_true (status_served knows a) (status_served knows b) s in
