@@ -51,7 +51,7 @@ impl<'n, 'u> Model for Demands<'n, 'u> {
 
 impl<'n, 'u> Demands<'n, 'u> {
     /// What the package with this surface asks of the unit, whose items have these names.
-    pub fn of(
+    pub(crate) fn of(
         alloc: Global,
         unit: &'u Unit,
         names: &'n SpellingTable<'u, usize>,

@@ -78,7 +78,7 @@ impl Mem {
     }
 
     /// The cell that a pointer names; None outside every field, and where the cell is unset (6.3.2.1p2, 6.5.3.2p4).
-    pub fn load(&self, p: Pointer) -> Option<Cell>
+    pub(crate) fn load(&self, p: Pointer) -> Option<Cell>
         ensures { result ≡ load (memory self.now) p }
     {
         self.objects.get(p.object)?.load(p.field, p.index)

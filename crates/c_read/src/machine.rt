@@ -38,7 +38,7 @@ pub(crate) enum Meeting {
 impl Machine {
     /// A machine before a text's first token.
     #[tactic(auto, using(crate::proofs::Starting::nothing_made))]
-    pub fn new(alloc: Global) -> Result<Machine, NoMemory>
+    pub(crate) fn new(alloc: Global) -> Result<Machine, NoMemory>
         ensures start { IfOk result (λ m. state_of m ≡ start) }
         ensures fit { IfOk result (λ m. IsFit m.maker) }
     {

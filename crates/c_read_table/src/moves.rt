@@ -20,7 +20,7 @@ pub enum Move {
 
 impl Move {
     /// The token is read, and `wants` are wanted then.
-    pub fn take(wants: &'static [Want]) -> Move
+    pub(crate) fn take(wants: &'static [Want]) -> Move
         ensures { seen result ≡ machine.Take wants.now }
     {
         Move::Take(Wants::of(wants, After::of(&[], &[])))

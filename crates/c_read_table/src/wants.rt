@@ -36,7 +36,7 @@ impl Model for After {
 
 impl After {
     /// Two lists of the table.
-    pub fn of(then: &'static [Want], last: &'static [Want]) -> Self
+    pub(crate) fn of(then: &'static [Want], last: &'static [Want]) -> Self
         ensures { result ≡ then.now ++ last.now }
     {
         After {
@@ -70,7 +70,7 @@ impl After {
     }
 }
 
-/// Wanted things, the first one in front.
+/// Wanted things, the first one at the front.
 #[derive(Drop)]
 pub struct Wants {
     lead: &'static [Want],
@@ -86,7 +86,7 @@ impl Model for Wants {
 
 impl Wants {
     /// A list of the table, and what is wanted after it.
-    pub fn of(first: &'static [Want], after: After) -> Self
+    pub(crate) fn of(first: &'static [Want], after: After) -> Self
         ensures { result ≡ first.now ++ after }
     {
         Wants {

@@ -1,4 +1,4 @@
--- A line before bytes.
+-- A line that bytes begin with.
 use Rattle.std.specs.Prelude.{◌≡◌, ◌++◌, ℕ, List}
 
 -- The bytes begin otherwise than by this line.

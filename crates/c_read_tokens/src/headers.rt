@@ -26,7 +26,7 @@ fn string() -> &'static str
     "#include <string.h>\n"
 }
 
-/// What stands after a line before the bytes; none where they begin otherwise.
+/// What stands after a line that the bytes begin with; none where they begin otherwise.
 fn behind_line<'a>(line: &str, bytes: &'a [u8]) -> Option<&'a [u8]>
     ensures some { IfSome result (λ rest. bytes.now ≡ line.now ++ rest.now) }
     ensures none { IfNone result (LacksLine line.now bytes.now) }

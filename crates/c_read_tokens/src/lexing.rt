@@ -13,7 +13,7 @@ use crate::runs::{first_byte, is_digit, is_word_byte, string_len, word_len};
 use crate::symbols::{Symbol, symbol_of};
 use crate::words::{is_reserved, word_of};
 
-/// A token before bytes, and what stands after it. `text` are the bytes of a name, or those between the quotes
+/// A token that bytes begin with, and what stands after it. `text` are the bytes of a name, or those between the quotes
 /// of a string.
 #[derive(Clone, Copy)]
 pub struct Piece<'a> {
@@ -136,7 +136,7 @@ fn symbol_piece(bytes: &[u8]) -> Option<Piece<'_>>
     symbol_in_front(symbol_of(first, others)?, bytes)
 }
 
-/// The token before bytes that begin with no gap; none where no token of the subset stands there.
+/// The token that bytes without a gap before it begin with; none where no token of the subset stands there.
 pub fn first_piece(bytes: &[u8]) -> Option<Piece<'_>>
     requires { 0 < length bytes.now }
     ensures some { IfSome result (λ p. Stands (token_of p.kind p.text.now) bytes.now p.rest.now) }

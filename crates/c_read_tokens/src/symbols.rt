@@ -1,4 +1,4 @@
-// The symbols before bytes: operators with two operands, and other marks.
+// The symbols that bytes may begin with: operators with two operands, and other marks.
 
 ghost use Rattle.std.specs.Prelude.{◌≡◌, length};
 ghost use Rattle.std.specs.Option.{option_map};
@@ -21,7 +21,7 @@ pub(crate) enum Symbol {
 
 impl Symbol {
     /// The symbol as a token.
-    pub fn kind(self) -> Kind
+    pub(crate) fn kind(self) -> Kind
         ensures { bare result ≡ symbol_token_of self }
     {
         match self {

@@ -50,7 +50,7 @@ impl Machine {
     /// zero or null. `NoSuchForm`: the text hasn't the unit form for the package; its number is that of the first item that
     /// breaks it, or of the items, where there is none or a public function is missing. `Memory`: memory was refused, or more
     /// than 4,096 functions call one another in a chain, for which the machine's own stack has no room.
-    pub fn load(
+    pub(crate) fn load(
         alloc: Global,
         u: Unit,
         surface: &PublicSurface,

@@ -77,7 +77,7 @@ impl<'u> Numbers<'u> {
     }
 
     /// The number of a function: that of the functions before it.
-    pub fn function(&self, name: CNameId) -> Option<usize>
+    pub(crate) fn function(&self, name: CNameId) -> Option<usize>
         requires { HasName self.now name }
         ensures { result ≡ position (λ it. bytes_eq it.name (bytes_at self.now.names name.0)) (functions_of (unit_tree self.now)) }
     {
@@ -92,7 +92,7 @@ impl<'u> Numbers<'u> {
     }
 
     /// The number of a field among those of its struct.
-    pub fn field(&self, of: CNameId, name: CNameId) -> Option<usize>
+    pub(crate) fn field(&self, of: CNameId, name: CNameId) -> Option<usize>
         requires of { HasName self.now of }
         requires name { HasName self.now name }
         ensures { result ≡ option_and_then (λ it. position (λ f. bytes_eq f.name (bytes_at self.now.names name.0)) it.fields) (struct_named (structs_of (unit_tree self.now)) (bytes_at self.now.names of.0)) }

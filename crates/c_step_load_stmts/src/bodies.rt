@@ -45,7 +45,7 @@ impl<'r, 'k, 'u> Body<'r, 'k, 'u> {
     }
 
     /// The number to go to for statements with a number, where `next` follows them.
-    pub fn go(&self, i: usize, next: usize, stmt: CStmtId) -> usize
+    pub(crate) fn go(&self, i: usize, next: usize, stmt: CStmtId) -> usize
         requires { stmt.0 < length (nodes_of self.now).stmts }
         ensures { result ≡ go i next (code_of (nodes_of self.now) stmt.0) }
     {

@@ -11,7 +11,7 @@ pub(crate) struct FactSet {
 
 impl FactSet {
     /// The set of no place.
-    pub fn new() -> FactSet
+    pub(crate) fn new() -> FactSet
         ensures none { IsSetOf result.words [] }
         ensures words { result.words ≡ replicate 8 0 }
     {
@@ -19,7 +19,7 @@ impl FactSet {
     }
 
     /// Whether place `i` is in the set.
-    pub fn has(&self, i: usize) -> bool
+    pub(crate) fn has(&self, i: usize) -> bool
         requires { i < 512 }
         ensures { result ≡ member self.now.words i }
     {

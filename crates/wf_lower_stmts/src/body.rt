@@ -112,7 +112,7 @@ impl<'a> Body<'a> {
     }
 
     /// The statements of the method.
-    pub fn block(&self) -> &Block
+    pub(crate) fn block(&self) -> &Block
         ensures { result.now ≡ self.now.body }
     {
         self.body
@@ -151,14 +151,14 @@ impl<'a> Body<'a> {
     }
 
     /// Whether the method keeps what a started statement has.
-    pub fn keeps_held(&self) -> bool
+    pub(crate) fn keeps_held(&self) -> bool
         ensures { result ≡ keeps holds_something (form_in self.now).method.body }
     {
         self.keeps_held
     }
 
     /// Whether the method keeps how many bytes that is.
-    pub fn keeps_count(&self) -> bool
+    pub(crate) fn keeps_count(&self) -> bool
         ensures { result ≡ keeps counts_bytes (form_in self.now).method.body }
     {
         self.keeps_count

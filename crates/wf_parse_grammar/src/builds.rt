@@ -26,14 +26,14 @@ pub enum Build {
 
 impl Build {
     /// The token is read, and these are wanted in place of the symbol.
-    pub fn take(wants: &'static [Want]) -> Build
+    pub(crate) fn take(wants: &'static [Want]) -> Build
         ensures { result ≡ Take wants.now }
     {
         Build::Take(Wants::of(wants, &[]))
     }
 
     /// The same, where the token begins the block of a method.
-    pub fn enter(wants: &'static [Want]) -> Build
+    pub(crate) fn enter(wants: &'static [Want]) -> Build
         ensures { result ≡ Enter wants.now }
     {
         Build::Enter(Wants::of(wants, &[]))

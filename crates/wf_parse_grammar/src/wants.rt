@@ -71,7 +71,7 @@ fn push_last(last: Option<Sym>, stack: &mut Stack<Want>) -> Result<(), NoMemory>
 
 impl Wants {
     /// The wanted things of a list of the table, and then `after`.
-    pub fn of(rest: &'static [Want], after: &'static [Want]) -> Self
+    pub(crate) fn of(rest: &'static [Want], after: &'static [Want]) -> Self
         ensures { result ≡ rest.now ++ after.now }
     {
         Wants {

@@ -79,7 +79,7 @@ impl Declared {
     ghost use Rattle.wf_script.specs.Targets.{target_in};
 
     /// What is declared before the first line.
-    pub fn new(alloc: Global) -> Declared
+    pub(crate) fn new(alloc: Global) -> Declared
         ensures { result ≡ nothing_declared }
     {
         Declared {
@@ -462,7 +462,7 @@ impl Declared {
 
     /// A line that isn't skipped, by its words.
     #[tactic(auto, unfolding(wf_script_rules::specs::Lines::line_of))]
-    pub fn line(
+    pub(crate) fn line(
         &mut self,
         alloc: Global,
         surface: &PublicSurface,

@@ -85,7 +85,7 @@ impl Names {
     ghost use Rattle.wf_script_rules.specs.Values.{new_name, known, known_receiver, known_buffer, known_array};
 
     /// No names.
-    pub fn new(alloc: Global) -> Names
+    pub(crate) fn new(alloc: Global) -> Names
         ensures { result ≡ [] }
     {
         Names {

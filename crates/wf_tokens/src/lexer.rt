@@ -103,7 +103,7 @@ impl<'a> Lexer<'a> {
         }
     }
 
-    /// Takes the piece before `behind`, which stands at `at`.
+    /// Takes the piece that `behind` begins with, which stands at `at`.
     fn take_piece(&mut self, piece: Piece, behind: &'a [u8], at: Place) -> Token<'a>
         requires piece { IsFrontPiece piece.kind piece.len behind.now }
         requires line { at.line + length behind.now ≤ 1048577 }

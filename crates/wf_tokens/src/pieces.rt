@@ -19,7 +19,7 @@ pub(crate) struct Piece {
     pub len: usize,
 }
 
-/// The piece before the bytes. Where none can stand there: S2 where they begin with a quote, S3 or S4
+/// The piece that the bytes begin with. Where they begin with none: S2 where they begin with a quote, S3 or S4
 /// where they begin with a digit, else S1.
 pub(crate) fn first_piece(bytes: &[u8]) -> Result<Piece, Rule>
     ensures piece { IfOk result (λ piece. IsFrontPiece piece.kind piece.len bytes.now) }

@@ -35,7 +35,7 @@ impl Drop for Prepared {
 
 impl Prepared {
     /// Reads a script over the public surface of a package. `Refused` tells its first line that breaks a rule, and the rule.
-    pub fn read(alloc: Global, t: &Typed, bytes: &[u8]) -> Result<Prepared, ScriptFault>
+    pub(crate) fn read(alloc: Global, t: &Typed, bytes: &[u8]) -> Result<Prepared, ScriptFault>
         requires names { HasNames t.now }
         requires typed { IsTyped t.now }
         ensures reads { Prepares (surface_of (package_of t.now)) bytes.now result }
@@ -47,7 +47,7 @@ impl Prepared {
     }
 
     /// The receivers that the script declares, by number.
-    pub fn receivers(&self) -> &[ReceiverDecl]
+    pub(crate) fn receivers(&self) -> &[ReceiverDecl]
         ensures { map receiver_of result.now ≡ self.now.script.declared.receivers }
     {
         self.script.receivers()

@@ -78,7 +78,7 @@ impl BodyBuilding {
     }
 
     /// How many statements there are.
-    pub fn stmts(&self) -> usize
+    pub(crate) fn stmts(&self) -> usize
         ensures { result ≡ length self.now.stmts }
     {
         self.stmts.len()
