@@ -35,6 +35,17 @@ fn agreed(before: Option<Pointer>, after: Option<Pointer>) -> Option<Pointer>
     }
 }
 
+/// A call as a statement.
+#[derive(Clone, Copy)]
+struct CallStmt {
+    /// The target that its value is assigned to, where it has one.
+    target: Option<Span>,
+    /// The number of its function.
+    function: usize,
+    /// Its arguments.
+    given: Span,
+}
+
 impl Code {
     /// Calls a function, within so many turns. Its arguments stand on the stack. The call's object is gone when it has
     /// returned.
@@ -175,11 +186,14 @@ impl Code {
                 function,
                 given,
                 next,
-            } => goes_back(
-                self.call_kept(target, function, given, left, at, st),
-                pc,
-                next,
-            ),
+            } => {
+                let stmt = CallStmt {
+                    target,
+                    function,
+                    given,
+                };
+                goes_back(self.call_kept(stmt, left, at, st), pc, next)
+            }
             StmtInstr::Move { given, next } => moves(
                 self.move_given(given, at, st),
                 pc,
@@ -217,38 +231,30 @@ impl Code {
     /// A call as a statement: its value is assigned to its target, which is found before the call and after it (6.5.2.2,
     /// 6.5.16).
     #[cycle(call)]
-    fn call_kept(
-        &self,
-        target: Option<Span>,
-        function: usize,
-        given: Span,
-        left: u64,
-        at: Active,
-        st: &mut Store,
-    ) -> Ended
+    fn call_kept(&self, stmt: CallStmt, left: u64, at: Active, st: &mut Store) -> Ended
         requires ready { CanRun self.now at st.old }
         ensures left { LeavesAtMost left result }
         ensures keeps { OnGot result (KeepsShape st.old st.new) }
         ensures means { (p : Program) (f : Function) (callable : List Function) (start : ℕ) (on : ℕ → Memory → Outcome Returned) → length callable ≡ at.own
             → AreCoded self.now st.old.frames.items st.old.args.items p callable
-            → defined (given_by (seen_in p callable at.frame (memory st.old.mem)) (code_in self.now.text given))
-            (λ values. after_call (meaning_at p callable function left values (memory st.old.mem)) (λ now done. defined (kept_by (activation_of p f callable at.frame start) (option_map (code_in self.now.text) target) (memory st.old.mem) done) (on now)))
+            → defined (given_by (seen_in p callable at.frame (memory st.old.mem)) (code_in self.now.text stmt.given))
+            (λ values. after_call (meaning_at p callable stmt.function left values (memory st.old.mem)) (λ now done. defined (kept_by (activation_of p f callable at.frame start) (option_map (code_in self.now.text) stmt.target) (memory st.old.mem) done) (on now)))
             ≡ after_kept result (memory st.new.mem) on }
     {
-        let before = self.target(target, at, st);
-        if !self.given(given, at, st) {
+        let before = self.target(stmt.target, at, st);
+        if !self.given(stmt.given, at, st) {
             return Ended::Lost;
         }
-        if function >= at.own {
+        if stmt.function >= at.own {
             return Ended::Lost;
         }
         let callee = Active {
-            own: function,
+            own: stmt.function,
             frame: at.frame + 1,
         };
         match self.call(callee, left, st) {
             Ended::Got { value, left: now } => {
-                if self.keep(target, before, value, at, st) {
+                if self.keep(stmt.target, before, value, at, st) {
                     Ended::Got {
                         value: None,
                         left: now,

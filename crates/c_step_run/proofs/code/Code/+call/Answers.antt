@@ -246,13 +246,13 @@ enter-returns-in-Lost-clause-means t c = λ p it callable n get coded.
 pub call_kept-given-requires : goal.call_kept-given-requires
 call_kept-given-requires t c = record { ready = can_run c.args.self.now c.args.at c.args.st.now c.target-before.new.st c.requires.ready c.target-before.ensures.keeps c.target-before.ensures.empty }
 
-pub call_kept-returns-then-function-at-clause-means : goal.call_kept-returns-then-function-at-clause-means
-call_kept-returns-then-function-at-clause-means t c = λ p f callable start on n coded.
-    given_then (given_by (seen_in p callable c.args.at.frame (memory c.args.st.now.mem)) (code_in c.args.self.now.text c.args.given)) (reverse (on_stack c.given.new.st.stack)) (λ (values : List CValue). after_call (meaning_at p callable c.args.function c.args.left values (memory c.args.st.now.mem)) (λ (now : ℕ) (done : Returned). defined (kept_by (activation_of p f callable c.args.at.frame start) (option_map (code_in c.args.self.now.text) c.args.target) (memory c.args.st.now.mem) done) (on now))) (subst (λ (m : Memory). given_by (seen_in p callable c.args.at.frame m) (code_in c.args.self.now.text c.args.given) ≡ Some (reverse (on_stack c.given.new.st.stack))) c.target-before.ensures.keeps.same (c.if-not-given.ensures.means p callable n (all_same c.args.self.now c.args.st.now.frames.items c.args.st.now.args.items p c.target-before.new.st.frames.items c.target-before.new.st.args.items callable (λ j l. ap (λ (fs : List FrameView). slice_get fs j) c.target-before.ensures.keeps.room.frames) (λ j l. ap (λ (fs : List FrameView). slice_get fs j) c.target-before.ensures.keeps.room.arguments) coded)))
-    ∙ (ap (λ (o : Outcome Returned). after_call o (λ (now : ℕ) (done : Returned). defined (kept_by (activation_of p f callable c.args.at.frame start) (option_map (code_in c.args.self.now.text) c.args.target) (memory c.args.st.now.mem) done) (on now))) (no_meaning p callable c.args.function (omega (arith, n)) c.args.left (reverse (on_stack c.given.new.st.stack)) (memory c.args.st.now.mem)))
+pub call_kept-returns-then-stmt-at-clause-means : goal.call_kept-returns-then-stmt-at-clause-means
+call_kept-returns-then-stmt-at-clause-means t c = λ p f callable start on n coded.
+    given_then (given_by (seen_in p callable c.args.at.frame (memory c.args.st.now.mem)) (code_in c.args.self.now.text c.args.stmt.given)) (reverse (on_stack c.given.new.st.stack)) (λ (values : List CValue). after_call (meaning_at p callable c.args.stmt.function c.args.left values (memory c.args.st.now.mem)) (λ (now : ℕ) (done : Returned). defined (kept_by (activation_of p f callable c.args.at.frame start) (option_map (code_in c.args.self.now.text) c.args.stmt.target) (memory c.args.st.now.mem) done) (on now))) (subst (λ (m : Memory). given_by (seen_in p callable c.args.at.frame m) (code_in c.args.self.now.text c.args.stmt.given) ≡ Some (reverse (on_stack c.given.new.st.stack))) c.target-before.ensures.keeps.same (c.if-not-given.ensures.means p callable n (all_same c.args.self.now c.args.st.now.frames.items c.args.st.now.args.items p c.target-before.new.st.frames.items c.target-before.new.st.args.items callable (λ j l. ap (λ (fs : List FrameView). slice_get fs j) c.target-before.ensures.keeps.room.frames) (λ j l. ap (λ (fs : List FrameView). slice_get fs j) c.target-before.ensures.keeps.room.arguments) coded)))
+    ∙ (ap (λ (o : Outcome Returned). after_call o (λ (now : ℕ) (done : Returned). defined (kept_by (activation_of p f callable c.args.at.frame start) (option_map (code_in c.args.self.now.text) c.args.stmt.target) (memory c.args.st.now.mem) done) (on now))) (no_meaning p callable c.args.stmt.function (omega (arith, n)) c.args.left (reverse (on_stack c.given.new.st.stack)) (memory c.args.st.now.mem)))
 
 pub call_kept-call-requires : goal.call_kept-call-requires
-call_kept-call-requires t c = (omega (arith, c.decreases, c.if-function-at.false), can_enter c.args.self.now c.args.at (record { own = c.args.function; frame = c.args.at.frame + 1 }) c.args.st.now c.given.new.st c.requires.ready (kept_memory c.args.st.now c.target-before.new.st c.given.new.st c.target-before.ensures.keeps c.given.ensures.keeps) (omega (arith, c.if-function-at.false)) refl)
+call_kept-call-requires t c = (omega (arith, c.decreases, c.if-stmt-at.false), can_enter c.args.self.now c.args.at (record { own = c.args.stmt.function; frame = c.args.at.frame + 1 }) c.args.st.now c.given.new.st c.requires.ready (kept_memory c.args.st.now c.target-before.new.st c.given.new.st c.target-before.ensures.keeps c.given.ensures.keeps) (omega (arith, c.if-stmt-at.false)) refl)
 
 pub call_kept-keep-requires : goal.call_kept-keep-requires
 call_kept-keep-requires t c = record { ready = runs_on_shape c.args.self.now c.args.at c.args.st.now c.call.new.st c.requires.ready (after_memory c.args.st.now c.given.new.st c.call.new.st true (kept_memory c.args.st.now c.target-before.new.st c.given.new.st c.target-before.ensures.keeps c.given.ensures.keeps) c.in-Got.ensures.keeps) }
@@ -262,20 +262,20 @@ call_kept-returns-then-keep-clause-keeps t c = kept_shape c.args.st.now c.call.n
 
 pub call_kept-returns-then-keep-clause-means : goal.call_kept-returns-then-keep-clause-means
 call_kept-returns-then-keep-clause-means t c = λ p f callable start on n coded.
-    given_then (given_by (seen_in p callable c.args.at.frame (memory c.args.st.now.mem)) (code_in c.args.self.now.text c.args.given)) (reverse (on_stack c.given.new.st.stack)) (λ (values : List CValue). after_call (meaning_at p callable c.args.function c.args.left values (memory c.args.st.now.mem)) (λ (now : ℕ) (done : Returned). defined (kept_by (activation_of p f callable c.args.at.frame start) (option_map (code_in c.args.self.now.text) c.args.target) (memory c.args.st.now.mem) done) (on now))) (subst (λ (m : Memory). given_by (seen_in p callable c.args.at.frame m) (code_in c.args.self.now.text c.args.given) ≡ Some (reverse (on_stack c.given.new.st.stack))) c.target-before.ensures.keeps.same (c.if-not-given.ensures.means p callable n (all_same c.args.self.now c.args.st.now.frames.items c.args.st.now.args.items p c.target-before.new.st.frames.items c.target-before.new.st.args.items callable (λ j l. ap (λ (fs : List FrameView). slice_get fs j) c.target-before.ensures.keeps.room.frames) (λ j l. ap (λ (fs : List FrameView). slice_get fs j) c.target-before.ensures.keeps.room.arguments) coded)))
-    ∙ (ap (λ (o : Outcome Returned). after_call o (λ (now : ℕ) (done : Returned). defined (kept_by (activation_of p f callable c.args.at.frame start) (option_map (code_in c.args.self.now.text) c.args.target) (memory c.args.st.now.mem) done) (on now))) ((found c.args.self.now c.args.st.now.frames.items c.args.st.now.args.items p callable c.args.function (omega (arith, n, c.if-function-at.false)) coded).meaning c.args.left (reverse (on_stack c.given.new.st.stack)) (memory c.args.st.now.mem) ∙ (ap (λ (m : Memory). function_meaning p (found c.args.self.now c.args.st.now.frames.items c.args.st.now.args.items p callable c.args.function (omega (arith, n, c.if-function-at.false)) coded).it (expression_call p (found c.args.self.now c.args.st.now.frames.items c.args.st.now.args.items p callable c.args.function (omega (arith, n, c.if-function-at.false)) coded).front) (call_of p (found c.args.self.now c.args.st.now.frames.items c.args.st.now.args.items p callable c.args.function (omega (arith, n, c.if-function-at.false)) coded).front) c.args.left (reverse (on_stack c.given.new.st.stack)) m) (sym (kept_memory c.args.st.now c.target-before.new.st c.given.new.st c.target-before.ensures.keeps c.given.ensures.keeps).same) ∙ c.in-Got.ensures.means p (found c.args.self.now c.args.st.now.frames.items c.args.st.now.args.items p callable c.args.function (omega (arith, n, c.if-function-at.false)) coded).it (found c.args.self.now c.args.st.now.frames.items c.args.st.now.args.items p callable c.args.function (omega (arith, n, c.if-function-at.false)) coded).front (found c.args.self.now c.args.st.now.frames.items c.args.st.now.args.items p callable c.args.function (omega (arith, n, c.if-function-at.false)) coded).size (all_same c.args.self.now c.args.st.now.frames.items c.args.st.now.args.items p c.given.new.st.frames.items c.given.new.st.args.items ((found c.args.self.now c.args.st.now.frames.items c.args.st.now.args.items p callable c.args.function (omega (arith, n, c.if-function-at.false)) coded).it ∷ (found c.args.self.now c.args.st.now.frames.items c.args.st.now.args.items p callable c.args.function (omega (arith, n, c.if-function-at.false)) coded).front) (λ j l. ap (λ (fs : List FrameView). slice_get fs j) (kept_memory c.args.st.now c.target-before.new.st c.given.new.st c.target-before.ensures.keeps c.given.ensures.keeps).room.frames) (λ j l. ap (λ (fs : List FrameView). slice_get fs j) (kept_memory c.args.st.now c.target-before.new.st c.given.new.st c.target-before.ensures.keeps c.given.ensures.keeps).room.arguments) ((found c.args.self.now c.args.st.now.frames.items c.args.st.now.args.items p callable c.args.function (omega (arith, n, c.if-function-at.false)) coded).coded, (found c.args.self.now c.args.st.now.frames.items c.args.st.now.args.items p callable c.args.function (omega (arith, n, c.if-function-at.false)) coded).others)))) ∙ ap (λ (o : Option Memory). defined o (on c.in-Got.now)) (c.if-keep.ensures.means p f callable start (memory c.args.st.now.mem) n (all_same c.args.self.now c.args.st.now.frames.items c.args.st.now.args.items p c.call.new.st.frames.items c.call.new.st.args.items callable (λ j l. ap (λ (fs : List FrameView). slice_get fs j) (after_memory c.args.st.now c.given.new.st c.call.new.st true (kept_memory c.args.st.now c.target-before.new.st c.given.new.st c.target-before.ensures.keeps c.given.ensures.keeps) c.in-Got.ensures.keeps).room.frames) (λ j l. ap (λ (fs : List FrameView). slice_get fs j) (after_memory c.args.st.now c.given.new.st c.call.new.st true (kept_memory c.args.st.now c.target-before.new.st c.given.new.st c.target-before.ensures.keeps c.given.ensures.keeps) c.in-Got.ensures.keeps).room.arguments) coded) (c.target-before.ensures.means p callable n coded)))
+    given_then (given_by (seen_in p callable c.args.at.frame (memory c.args.st.now.mem)) (code_in c.args.self.now.text c.args.stmt.given)) (reverse (on_stack c.given.new.st.stack)) (λ (values : List CValue). after_call (meaning_at p callable c.args.stmt.function c.args.left values (memory c.args.st.now.mem)) (λ (now : ℕ) (done : Returned). defined (kept_by (activation_of p f callable c.args.at.frame start) (option_map (code_in c.args.self.now.text) c.args.stmt.target) (memory c.args.st.now.mem) done) (on now))) (subst (λ (m : Memory). given_by (seen_in p callable c.args.at.frame m) (code_in c.args.self.now.text c.args.stmt.given) ≡ Some (reverse (on_stack c.given.new.st.stack))) c.target-before.ensures.keeps.same (c.if-not-given.ensures.means p callable n (all_same c.args.self.now c.args.st.now.frames.items c.args.st.now.args.items p c.target-before.new.st.frames.items c.target-before.new.st.args.items callable (λ j l. ap (λ (fs : List FrameView). slice_get fs j) c.target-before.ensures.keeps.room.frames) (λ j l. ap (λ (fs : List FrameView). slice_get fs j) c.target-before.ensures.keeps.room.arguments) coded)))
+    ∙ (ap (λ (o : Outcome Returned). after_call o (λ (now : ℕ) (done : Returned). defined (kept_by (activation_of p f callable c.args.at.frame start) (option_map (code_in c.args.self.now.text) c.args.stmt.target) (memory c.args.st.now.mem) done) (on now))) ((found c.args.self.now c.args.st.now.frames.items c.args.st.now.args.items p callable c.args.stmt.function (omega (arith, n, c.if-stmt-at.false)) coded).meaning c.args.left (reverse (on_stack c.given.new.st.stack)) (memory c.args.st.now.mem) ∙ (ap (λ (m : Memory). function_meaning p (found c.args.self.now c.args.st.now.frames.items c.args.st.now.args.items p callable c.args.stmt.function (omega (arith, n, c.if-stmt-at.false)) coded).it (expression_call p (found c.args.self.now c.args.st.now.frames.items c.args.st.now.args.items p callable c.args.stmt.function (omega (arith, n, c.if-stmt-at.false)) coded).front) (call_of p (found c.args.self.now c.args.st.now.frames.items c.args.st.now.args.items p callable c.args.stmt.function (omega (arith, n, c.if-stmt-at.false)) coded).front) c.args.left (reverse (on_stack c.given.new.st.stack)) m) (sym (kept_memory c.args.st.now c.target-before.new.st c.given.new.st c.target-before.ensures.keeps c.given.ensures.keeps).same) ∙ c.in-Got.ensures.means p (found c.args.self.now c.args.st.now.frames.items c.args.st.now.args.items p callable c.args.stmt.function (omega (arith, n, c.if-stmt-at.false)) coded).it (found c.args.self.now c.args.st.now.frames.items c.args.st.now.args.items p callable c.args.stmt.function (omega (arith, n, c.if-stmt-at.false)) coded).front (found c.args.self.now c.args.st.now.frames.items c.args.st.now.args.items p callable c.args.stmt.function (omega (arith, n, c.if-stmt-at.false)) coded).size (all_same c.args.self.now c.args.st.now.frames.items c.args.st.now.args.items p c.given.new.st.frames.items c.given.new.st.args.items ((found c.args.self.now c.args.st.now.frames.items c.args.st.now.args.items p callable c.args.stmt.function (omega (arith, n, c.if-stmt-at.false)) coded).it ∷ (found c.args.self.now c.args.st.now.frames.items c.args.st.now.args.items p callable c.args.stmt.function (omega (arith, n, c.if-stmt-at.false)) coded).front) (λ j l. ap (λ (fs : List FrameView). slice_get fs j) (kept_memory c.args.st.now c.target-before.new.st c.given.new.st c.target-before.ensures.keeps c.given.ensures.keeps).room.frames) (λ j l. ap (λ (fs : List FrameView). slice_get fs j) (kept_memory c.args.st.now c.target-before.new.st c.given.new.st c.target-before.ensures.keeps c.given.ensures.keeps).room.arguments) ((found c.args.self.now c.args.st.now.frames.items c.args.st.now.args.items p callable c.args.stmt.function (omega (arith, n, c.if-stmt-at.false)) coded).coded, (found c.args.self.now c.args.st.now.frames.items c.args.st.now.args.items p callable c.args.stmt.function (omega (arith, n, c.if-stmt-at.false)) coded).others)))) ∙ ap (λ (o : Option Memory). defined o (on c.in-Got.now)) (c.if-keep.ensures.means p f callable start (memory c.args.st.now.mem) n (all_same c.args.self.now c.args.st.now.frames.items c.args.st.now.args.items p c.call.new.st.frames.items c.call.new.st.args.items callable (λ j l. ap (λ (fs : List FrameView). slice_get fs j) (after_memory c.args.st.now c.given.new.st c.call.new.st true (kept_memory c.args.st.now c.target-before.new.st c.given.new.st c.target-before.ensures.keeps c.given.ensures.keeps) c.in-Got.ensures.keeps).room.frames) (λ j l. ap (λ (fs : List FrameView). slice_get fs j) (after_memory c.args.st.now c.given.new.st c.call.new.st true (kept_memory c.args.st.now c.target-before.new.st c.given.new.st c.target-before.ensures.keeps c.given.ensures.keeps) c.in-Got.ensures.keeps).room.arguments) coded) (c.target-before.ensures.means p callable n coded)))
 
 pub call_kept-returns-else-keep-clause-means : goal.call_kept-returns-else-keep-clause-means
 call_kept-returns-else-keep-clause-means t c = λ p f callable start on n coded.
-    given_then (given_by (seen_in p callable c.args.at.frame (memory c.args.st.now.mem)) (code_in c.args.self.now.text c.args.given)) (reverse (on_stack c.given.new.st.stack)) (λ (values : List CValue). after_call (meaning_at p callable c.args.function c.args.left values (memory c.args.st.now.mem)) (λ (now : ℕ) (done : Returned). defined (kept_by (activation_of p f callable c.args.at.frame start) (option_map (code_in c.args.self.now.text) c.args.target) (memory c.args.st.now.mem) done) (on now))) (subst (λ (m : Memory). given_by (seen_in p callable c.args.at.frame m) (code_in c.args.self.now.text c.args.given) ≡ Some (reverse (on_stack c.given.new.st.stack))) c.target-before.ensures.keeps.same (c.if-not-given.ensures.means p callable n (all_same c.args.self.now c.args.st.now.frames.items c.args.st.now.args.items p c.target-before.new.st.frames.items c.target-before.new.st.args.items callable (λ j l. ap (λ (fs : List FrameView). slice_get fs j) c.target-before.ensures.keeps.room.frames) (λ j l. ap (λ (fs : List FrameView). slice_get fs j) c.target-before.ensures.keeps.room.arguments) coded)))
-    ∙ (ap (λ (o : Outcome Returned). after_call o (λ (now : ℕ) (done : Returned). defined (kept_by (activation_of p f callable c.args.at.frame start) (option_map (code_in c.args.self.now.text) c.args.target) (memory c.args.st.now.mem) done) (on now))) ((found c.args.self.now c.args.st.now.frames.items c.args.st.now.args.items p callable c.args.function (omega (arith, n, c.if-function-at.false)) coded).meaning c.args.left (reverse (on_stack c.given.new.st.stack)) (memory c.args.st.now.mem) ∙ (ap (λ (m : Memory). function_meaning p (found c.args.self.now c.args.st.now.frames.items c.args.st.now.args.items p callable c.args.function (omega (arith, n, c.if-function-at.false)) coded).it (expression_call p (found c.args.self.now c.args.st.now.frames.items c.args.st.now.args.items p callable c.args.function (omega (arith, n, c.if-function-at.false)) coded).front) (call_of p (found c.args.self.now c.args.st.now.frames.items c.args.st.now.args.items p callable c.args.function (omega (arith, n, c.if-function-at.false)) coded).front) c.args.left (reverse (on_stack c.given.new.st.stack)) m) (sym (kept_memory c.args.st.now c.target-before.new.st c.given.new.st c.target-before.ensures.keeps c.given.ensures.keeps).same) ∙ c.in-Got.ensures.means p (found c.args.self.now c.args.st.now.frames.items c.args.st.now.args.items p callable c.args.function (omega (arith, n, c.if-function-at.false)) coded).it (found c.args.self.now c.args.st.now.frames.items c.args.st.now.args.items p callable c.args.function (omega (arith, n, c.if-function-at.false)) coded).front (found c.args.self.now c.args.st.now.frames.items c.args.st.now.args.items p callable c.args.function (omega (arith, n, c.if-function-at.false)) coded).size (all_same c.args.self.now c.args.st.now.frames.items c.args.st.now.args.items p c.given.new.st.frames.items c.given.new.st.args.items ((found c.args.self.now c.args.st.now.frames.items c.args.st.now.args.items p callable c.args.function (omega (arith, n, c.if-function-at.false)) coded).it ∷ (found c.args.self.now c.args.st.now.frames.items c.args.st.now.args.items p callable c.args.function (omega (arith, n, c.if-function-at.false)) coded).front) (λ j l. ap (λ (fs : List FrameView). slice_get fs j) (kept_memory c.args.st.now c.target-before.new.st c.given.new.st c.target-before.ensures.keeps c.given.ensures.keeps).room.frames) (λ j l. ap (λ (fs : List FrameView). slice_get fs j) (kept_memory c.args.st.now c.target-before.new.st c.given.new.st c.target-before.ensures.keeps c.given.ensures.keeps).room.arguments) ((found c.args.self.now c.args.st.now.frames.items c.args.st.now.args.items p callable c.args.function (omega (arith, n, c.if-function-at.false)) coded).coded, (found c.args.self.now c.args.st.now.frames.items c.args.st.now.args.items p callable c.args.function (omega (arith, n, c.if-function-at.false)) coded).others)))) ∙ ap (λ (o : Option Memory). defined o (on c.in-Got.now)) (c.if-keep.ensures.means p f callable start (memory c.args.st.now.mem) n (all_same c.args.self.now c.args.st.now.frames.items c.args.st.now.args.items p c.call.new.st.frames.items c.call.new.st.args.items callable (λ j l. ap (λ (fs : List FrameView). slice_get fs j) (after_memory c.args.st.now c.given.new.st c.call.new.st true (kept_memory c.args.st.now c.target-before.new.st c.given.new.st c.target-before.ensures.keeps c.given.ensures.keeps) c.in-Got.ensures.keeps).room.frames) (λ j l. ap (λ (fs : List FrameView). slice_get fs j) (after_memory c.args.st.now c.given.new.st c.call.new.st true (kept_memory c.args.st.now c.target-before.new.st c.given.new.st c.target-before.ensures.keeps c.given.ensures.keeps) c.in-Got.ensures.keeps).room.arguments) coded) (c.target-before.ensures.means p callable n coded)))
+    given_then (given_by (seen_in p callable c.args.at.frame (memory c.args.st.now.mem)) (code_in c.args.self.now.text c.args.stmt.given)) (reverse (on_stack c.given.new.st.stack)) (λ (values : List CValue). after_call (meaning_at p callable c.args.stmt.function c.args.left values (memory c.args.st.now.mem)) (λ (now : ℕ) (done : Returned). defined (kept_by (activation_of p f callable c.args.at.frame start) (option_map (code_in c.args.self.now.text) c.args.stmt.target) (memory c.args.st.now.mem) done) (on now))) (subst (λ (m : Memory). given_by (seen_in p callable c.args.at.frame m) (code_in c.args.self.now.text c.args.stmt.given) ≡ Some (reverse (on_stack c.given.new.st.stack))) c.target-before.ensures.keeps.same (c.if-not-given.ensures.means p callable n (all_same c.args.self.now c.args.st.now.frames.items c.args.st.now.args.items p c.target-before.new.st.frames.items c.target-before.new.st.args.items callable (λ j l. ap (λ (fs : List FrameView). slice_get fs j) c.target-before.ensures.keeps.room.frames) (λ j l. ap (λ (fs : List FrameView). slice_get fs j) c.target-before.ensures.keeps.room.arguments) coded)))
+    ∙ (ap (λ (o : Outcome Returned). after_call o (λ (now : ℕ) (done : Returned). defined (kept_by (activation_of p f callable c.args.at.frame start) (option_map (code_in c.args.self.now.text) c.args.stmt.target) (memory c.args.st.now.mem) done) (on now))) ((found c.args.self.now c.args.st.now.frames.items c.args.st.now.args.items p callable c.args.stmt.function (omega (arith, n, c.if-stmt-at.false)) coded).meaning c.args.left (reverse (on_stack c.given.new.st.stack)) (memory c.args.st.now.mem) ∙ (ap (λ (m : Memory). function_meaning p (found c.args.self.now c.args.st.now.frames.items c.args.st.now.args.items p callable c.args.stmt.function (omega (arith, n, c.if-stmt-at.false)) coded).it (expression_call p (found c.args.self.now c.args.st.now.frames.items c.args.st.now.args.items p callable c.args.stmt.function (omega (arith, n, c.if-stmt-at.false)) coded).front) (call_of p (found c.args.self.now c.args.st.now.frames.items c.args.st.now.args.items p callable c.args.stmt.function (omega (arith, n, c.if-stmt-at.false)) coded).front) c.args.left (reverse (on_stack c.given.new.st.stack)) m) (sym (kept_memory c.args.st.now c.target-before.new.st c.given.new.st c.target-before.ensures.keeps c.given.ensures.keeps).same) ∙ c.in-Got.ensures.means p (found c.args.self.now c.args.st.now.frames.items c.args.st.now.args.items p callable c.args.stmt.function (omega (arith, n, c.if-stmt-at.false)) coded).it (found c.args.self.now c.args.st.now.frames.items c.args.st.now.args.items p callable c.args.stmt.function (omega (arith, n, c.if-stmt-at.false)) coded).front (found c.args.self.now c.args.st.now.frames.items c.args.st.now.args.items p callable c.args.stmt.function (omega (arith, n, c.if-stmt-at.false)) coded).size (all_same c.args.self.now c.args.st.now.frames.items c.args.st.now.args.items p c.given.new.st.frames.items c.given.new.st.args.items ((found c.args.self.now c.args.st.now.frames.items c.args.st.now.args.items p callable c.args.stmt.function (omega (arith, n, c.if-stmt-at.false)) coded).it ∷ (found c.args.self.now c.args.st.now.frames.items c.args.st.now.args.items p callable c.args.stmt.function (omega (arith, n, c.if-stmt-at.false)) coded).front) (λ j l. ap (λ (fs : List FrameView). slice_get fs j) (kept_memory c.args.st.now c.target-before.new.st c.given.new.st c.target-before.ensures.keeps c.given.ensures.keeps).room.frames) (λ j l. ap (λ (fs : List FrameView). slice_get fs j) (kept_memory c.args.st.now c.target-before.new.st c.given.new.st c.target-before.ensures.keeps c.given.ensures.keeps).room.arguments) ((found c.args.self.now c.args.st.now.frames.items c.args.st.now.args.items p callable c.args.stmt.function (omega (arith, n, c.if-stmt-at.false)) coded).coded, (found c.args.self.now c.args.st.now.frames.items c.args.st.now.args.items p callable c.args.stmt.function (omega (arith, n, c.if-stmt-at.false)) coded).others)))) ∙ ap (λ (o : Option Memory). defined o (on c.in-Got.now)) (c.if-keep.ensures.means p f callable start (memory c.args.st.now.mem) n (all_same c.args.self.now c.args.st.now.frames.items c.args.st.now.args.items p c.call.new.st.frames.items c.call.new.st.args.items callable (λ j l. ap (λ (fs : List FrameView). slice_get fs j) (after_memory c.args.st.now c.given.new.st c.call.new.st true (kept_memory c.args.st.now c.target-before.new.st c.given.new.st c.target-before.ensures.keeps c.given.ensures.keeps) c.in-Got.ensures.keeps).room.frames) (λ j l. ap (λ (fs : List FrameView). slice_get fs j) (after_memory c.args.st.now c.given.new.st c.call.new.st true (kept_memory c.args.st.now c.target-before.new.st c.given.new.st c.target-before.ensures.keeps c.given.ensures.keeps) c.in-Got.ensures.keeps).room.arguments) coded) (c.target-before.ensures.means p callable n coded)))
 
 pub call_kept-returns-in-More-clause-means : goal.call_kept-returns-in-More-clause-means
 call_kept-returns-in-More-clause-means t c = λ p f callable start on n coded.
-    given_then (given_by (seen_in p callable c.args.at.frame (memory c.args.st.now.mem)) (code_in c.args.self.now.text c.args.given)) (reverse (on_stack c.given.new.st.stack)) (λ (values : List CValue). after_call (meaning_at p callable c.args.function c.args.left values (memory c.args.st.now.mem)) (λ (now : ℕ) (done : Returned). defined (kept_by (activation_of p f callable c.args.at.frame start) (option_map (code_in c.args.self.now.text) c.args.target) (memory c.args.st.now.mem) done) (on now))) (subst (λ (m : Memory). given_by (seen_in p callable c.args.at.frame m) (code_in c.args.self.now.text c.args.given) ≡ Some (reverse (on_stack c.given.new.st.stack))) c.target-before.ensures.keeps.same (c.if-not-given.ensures.means p callable n (all_same c.args.self.now c.args.st.now.frames.items c.args.st.now.args.items p c.target-before.new.st.frames.items c.target-before.new.st.args.items callable (λ j l. ap (λ (fs : List FrameView). slice_get fs j) c.target-before.ensures.keeps.room.frames) (λ j l. ap (λ (fs : List FrameView). slice_get fs j) c.target-before.ensures.keeps.room.arguments) coded)))
-    ∙ (ap (λ (o : Outcome Returned). after_call o (λ (now : ℕ) (done : Returned). defined (kept_by (activation_of p f callable c.args.at.frame start) (option_map (code_in c.args.self.now.text) c.args.target) (memory c.args.st.now.mem) done) (on now))) ((found c.args.self.now c.args.st.now.frames.items c.args.st.now.args.items p callable c.args.function (omega (arith, n, c.if-function-at.false)) coded).meaning c.args.left (reverse (on_stack c.given.new.st.stack)) (memory c.args.st.now.mem) ∙ (ap (λ (m : Memory). function_meaning p (found c.args.self.now c.args.st.now.frames.items c.args.st.now.args.items p callable c.args.function (omega (arith, n, c.if-function-at.false)) coded).it (expression_call p (found c.args.self.now c.args.st.now.frames.items c.args.st.now.args.items p callable c.args.function (omega (arith, n, c.if-function-at.false)) coded).front) (call_of p (found c.args.self.now c.args.st.now.frames.items c.args.st.now.args.items p callable c.args.function (omega (arith, n, c.if-function-at.false)) coded).front) c.args.left (reverse (on_stack c.given.new.st.stack)) m) (sym (kept_memory c.args.st.now c.target-before.new.st c.given.new.st c.target-before.ensures.keeps c.given.ensures.keeps).same) ∙ c.in-More.ensures.means p (found c.args.self.now c.args.st.now.frames.items c.args.st.now.args.items p callable c.args.function (omega (arith, n, c.if-function-at.false)) coded).it (found c.args.self.now c.args.st.now.frames.items c.args.st.now.args.items p callable c.args.function (omega (arith, n, c.if-function-at.false)) coded).front (found c.args.self.now c.args.st.now.frames.items c.args.st.now.args.items p callable c.args.function (omega (arith, n, c.if-function-at.false)) coded).size (all_same c.args.self.now c.args.st.now.frames.items c.args.st.now.args.items p c.given.new.st.frames.items c.given.new.st.args.items ((found c.args.self.now c.args.st.now.frames.items c.args.st.now.args.items p callable c.args.function (omega (arith, n, c.if-function-at.false)) coded).it ∷ (found c.args.self.now c.args.st.now.frames.items c.args.st.now.args.items p callable c.args.function (omega (arith, n, c.if-function-at.false)) coded).front) (λ j l. ap (λ (fs : List FrameView). slice_get fs j) (kept_memory c.args.st.now c.target-before.new.st c.given.new.st c.target-before.ensures.keeps c.given.ensures.keeps).room.frames) (λ j l. ap (λ (fs : List FrameView). slice_get fs j) (kept_memory c.args.st.now c.target-before.new.st c.given.new.st c.target-before.ensures.keeps c.given.ensures.keeps).room.arguments) ((found c.args.self.now c.args.st.now.frames.items c.args.st.now.args.items p callable c.args.function (omega (arith, n, c.if-function-at.false)) coded).coded, (found c.args.self.now c.args.st.now.frames.items c.args.st.now.args.items p callable c.args.function (omega (arith, n, c.if-function-at.false)) coded).others)))))
+    given_then (given_by (seen_in p callable c.args.at.frame (memory c.args.st.now.mem)) (code_in c.args.self.now.text c.args.stmt.given)) (reverse (on_stack c.given.new.st.stack)) (λ (values : List CValue). after_call (meaning_at p callable c.args.stmt.function c.args.left values (memory c.args.st.now.mem)) (λ (now : ℕ) (done : Returned). defined (kept_by (activation_of p f callable c.args.at.frame start) (option_map (code_in c.args.self.now.text) c.args.stmt.target) (memory c.args.st.now.mem) done) (on now))) (subst (λ (m : Memory). given_by (seen_in p callable c.args.at.frame m) (code_in c.args.self.now.text c.args.stmt.given) ≡ Some (reverse (on_stack c.given.new.st.stack))) c.target-before.ensures.keeps.same (c.if-not-given.ensures.means p callable n (all_same c.args.self.now c.args.st.now.frames.items c.args.st.now.args.items p c.target-before.new.st.frames.items c.target-before.new.st.args.items callable (λ j l. ap (λ (fs : List FrameView). slice_get fs j) c.target-before.ensures.keeps.room.frames) (λ j l. ap (λ (fs : List FrameView). slice_get fs j) c.target-before.ensures.keeps.room.arguments) coded)))
+    ∙ (ap (λ (o : Outcome Returned). after_call o (λ (now : ℕ) (done : Returned). defined (kept_by (activation_of p f callable c.args.at.frame start) (option_map (code_in c.args.self.now.text) c.args.stmt.target) (memory c.args.st.now.mem) done) (on now))) ((found c.args.self.now c.args.st.now.frames.items c.args.st.now.args.items p callable c.args.stmt.function (omega (arith, n, c.if-stmt-at.false)) coded).meaning c.args.left (reverse (on_stack c.given.new.st.stack)) (memory c.args.st.now.mem) ∙ (ap (λ (m : Memory). function_meaning p (found c.args.self.now c.args.st.now.frames.items c.args.st.now.args.items p callable c.args.stmt.function (omega (arith, n, c.if-stmt-at.false)) coded).it (expression_call p (found c.args.self.now c.args.st.now.frames.items c.args.st.now.args.items p callable c.args.stmt.function (omega (arith, n, c.if-stmt-at.false)) coded).front) (call_of p (found c.args.self.now c.args.st.now.frames.items c.args.st.now.args.items p callable c.args.stmt.function (omega (arith, n, c.if-stmt-at.false)) coded).front) c.args.left (reverse (on_stack c.given.new.st.stack)) m) (sym (kept_memory c.args.st.now c.target-before.new.st c.given.new.st c.target-before.ensures.keeps c.given.ensures.keeps).same) ∙ c.in-More.ensures.means p (found c.args.self.now c.args.st.now.frames.items c.args.st.now.args.items p callable c.args.stmt.function (omega (arith, n, c.if-stmt-at.false)) coded).it (found c.args.self.now c.args.st.now.frames.items c.args.st.now.args.items p callable c.args.stmt.function (omega (arith, n, c.if-stmt-at.false)) coded).front (found c.args.self.now c.args.st.now.frames.items c.args.st.now.args.items p callable c.args.stmt.function (omega (arith, n, c.if-stmt-at.false)) coded).size (all_same c.args.self.now c.args.st.now.frames.items c.args.st.now.args.items p c.given.new.st.frames.items c.given.new.st.args.items ((found c.args.self.now c.args.st.now.frames.items c.args.st.now.args.items p callable c.args.stmt.function (omega (arith, n, c.if-stmt-at.false)) coded).it ∷ (found c.args.self.now c.args.st.now.frames.items c.args.st.now.args.items p callable c.args.stmt.function (omega (arith, n, c.if-stmt-at.false)) coded).front) (λ j l. ap (λ (fs : List FrameView). slice_get fs j) (kept_memory c.args.st.now c.target-before.new.st c.given.new.st c.target-before.ensures.keeps c.given.ensures.keeps).room.frames) (λ j l. ap (λ (fs : List FrameView). slice_get fs j) (kept_memory c.args.st.now c.target-before.new.st c.given.new.st c.target-before.ensures.keeps c.given.ensures.keeps).room.arguments) ((found c.args.self.now c.args.st.now.frames.items c.args.st.now.args.items p callable c.args.stmt.function (omega (arith, n, c.if-stmt-at.false)) coded).coded, (found c.args.self.now c.args.st.now.frames.items c.args.st.now.args.items p callable c.args.stmt.function (omega (arith, n, c.if-stmt-at.false)) coded).others)))))
 
 pub call_kept-returns-in-Lost-clause-means : goal.call_kept-returns-in-Lost-clause-means
 call_kept-returns-in-Lost-clause-means t c = λ p f callable start on n coded.
-    given_then (given_by (seen_in p callable c.args.at.frame (memory c.args.st.now.mem)) (code_in c.args.self.now.text c.args.given)) (reverse (on_stack c.given.new.st.stack)) (λ (values : List CValue). after_call (meaning_at p callable c.args.function c.args.left values (memory c.args.st.now.mem)) (λ (now : ℕ) (done : Returned). defined (kept_by (activation_of p f callable c.args.at.frame start) (option_map (code_in c.args.self.now.text) c.args.target) (memory c.args.st.now.mem) done) (on now))) (subst (λ (m : Memory). given_by (seen_in p callable c.args.at.frame m) (code_in c.args.self.now.text c.args.given) ≡ Some (reverse (on_stack c.given.new.st.stack))) c.target-before.ensures.keeps.same (c.if-not-given.ensures.means p callable n (all_same c.args.self.now c.args.st.now.frames.items c.args.st.now.args.items p c.target-before.new.st.frames.items c.target-before.new.st.args.items callable (λ j l. ap (λ (fs : List FrameView). slice_get fs j) c.target-before.ensures.keeps.room.frames) (λ j l. ap (λ (fs : List FrameView). slice_get fs j) c.target-before.ensures.keeps.room.arguments) coded)))
-    ∙ (ap (λ (o : Outcome Returned). after_call o (λ (now : ℕ) (done : Returned). defined (kept_by (activation_of p f callable c.args.at.frame start) (option_map (code_in c.args.self.now.text) c.args.target) (memory c.args.st.now.mem) done) (on now))) ((found c.args.self.now c.args.st.now.frames.items c.args.st.now.args.items p callable c.args.function (omega (arith, n, c.if-function-at.false)) coded).meaning c.args.left (reverse (on_stack c.given.new.st.stack)) (memory c.args.st.now.mem) ∙ (ap (λ (m : Memory). function_meaning p (found c.args.self.now c.args.st.now.frames.items c.args.st.now.args.items p callable c.args.function (omega (arith, n, c.if-function-at.false)) coded).it (expression_call p (found c.args.self.now c.args.st.now.frames.items c.args.st.now.args.items p callable c.args.function (omega (arith, n, c.if-function-at.false)) coded).front) (call_of p (found c.args.self.now c.args.st.now.frames.items c.args.st.now.args.items p callable c.args.function (omega (arith, n, c.if-function-at.false)) coded).front) c.args.left (reverse (on_stack c.given.new.st.stack)) m) (sym (kept_memory c.args.st.now c.target-before.new.st c.given.new.st c.target-before.ensures.keeps c.given.ensures.keeps).same) ∙ c.in-Lost.ensures.means p (found c.args.self.now c.args.st.now.frames.items c.args.st.now.args.items p callable c.args.function (omega (arith, n, c.if-function-at.false)) coded).it (found c.args.self.now c.args.st.now.frames.items c.args.st.now.args.items p callable c.args.function (omega (arith, n, c.if-function-at.false)) coded).front (found c.args.self.now c.args.st.now.frames.items c.args.st.now.args.items p callable c.args.function (omega (arith, n, c.if-function-at.false)) coded).size (all_same c.args.self.now c.args.st.now.frames.items c.args.st.now.args.items p c.given.new.st.frames.items c.given.new.st.args.items ((found c.args.self.now c.args.st.now.frames.items c.args.st.now.args.items p callable c.args.function (omega (arith, n, c.if-function-at.false)) coded).it ∷ (found c.args.self.now c.args.st.now.frames.items c.args.st.now.args.items p callable c.args.function (omega (arith, n, c.if-function-at.false)) coded).front) (λ j l. ap (λ (fs : List FrameView). slice_get fs j) (kept_memory c.args.st.now c.target-before.new.st c.given.new.st c.target-before.ensures.keeps c.given.ensures.keeps).room.frames) (λ j l. ap (λ (fs : List FrameView). slice_get fs j) (kept_memory c.args.st.now c.target-before.new.st c.given.new.st c.target-before.ensures.keeps c.given.ensures.keeps).room.arguments) ((found c.args.self.now c.args.st.now.frames.items c.args.st.now.args.items p callable c.args.function (omega (arith, n, c.if-function-at.false)) coded).coded, (found c.args.self.now c.args.st.now.frames.items c.args.st.now.args.items p callable c.args.function (omega (arith, n, c.if-function-at.false)) coded).others)))))
+    given_then (given_by (seen_in p callable c.args.at.frame (memory c.args.st.now.mem)) (code_in c.args.self.now.text c.args.stmt.given)) (reverse (on_stack c.given.new.st.stack)) (λ (values : List CValue). after_call (meaning_at p callable c.args.stmt.function c.args.left values (memory c.args.st.now.mem)) (λ (now : ℕ) (done : Returned). defined (kept_by (activation_of p f callable c.args.at.frame start) (option_map (code_in c.args.self.now.text) c.args.stmt.target) (memory c.args.st.now.mem) done) (on now))) (subst (λ (m : Memory). given_by (seen_in p callable c.args.at.frame m) (code_in c.args.self.now.text c.args.stmt.given) ≡ Some (reverse (on_stack c.given.new.st.stack))) c.target-before.ensures.keeps.same (c.if-not-given.ensures.means p callable n (all_same c.args.self.now c.args.st.now.frames.items c.args.st.now.args.items p c.target-before.new.st.frames.items c.target-before.new.st.args.items callable (λ j l. ap (λ (fs : List FrameView). slice_get fs j) c.target-before.ensures.keeps.room.frames) (λ j l. ap (λ (fs : List FrameView). slice_get fs j) c.target-before.ensures.keeps.room.arguments) coded)))
+    ∙ (ap (λ (o : Outcome Returned). after_call o (λ (now : ℕ) (done : Returned). defined (kept_by (activation_of p f callable c.args.at.frame start) (option_map (code_in c.args.self.now.text) c.args.stmt.target) (memory c.args.st.now.mem) done) (on now))) ((found c.args.self.now c.args.st.now.frames.items c.args.st.now.args.items p callable c.args.stmt.function (omega (arith, n, c.if-stmt-at.false)) coded).meaning c.args.left (reverse (on_stack c.given.new.st.stack)) (memory c.args.st.now.mem) ∙ (ap (λ (m : Memory). function_meaning p (found c.args.self.now c.args.st.now.frames.items c.args.st.now.args.items p callable c.args.stmt.function (omega (arith, n, c.if-stmt-at.false)) coded).it (expression_call p (found c.args.self.now c.args.st.now.frames.items c.args.st.now.args.items p callable c.args.stmt.function (omega (arith, n, c.if-stmt-at.false)) coded).front) (call_of p (found c.args.self.now c.args.st.now.frames.items c.args.st.now.args.items p callable c.args.stmt.function (omega (arith, n, c.if-stmt-at.false)) coded).front) c.args.left (reverse (on_stack c.given.new.st.stack)) m) (sym (kept_memory c.args.st.now c.target-before.new.st c.given.new.st c.target-before.ensures.keeps c.given.ensures.keeps).same) ∙ c.in-Lost.ensures.means p (found c.args.self.now c.args.st.now.frames.items c.args.st.now.args.items p callable c.args.stmt.function (omega (arith, n, c.if-stmt-at.false)) coded).it (found c.args.self.now c.args.st.now.frames.items c.args.st.now.args.items p callable c.args.stmt.function (omega (arith, n, c.if-stmt-at.false)) coded).front (found c.args.self.now c.args.st.now.frames.items c.args.st.now.args.items p callable c.args.stmt.function (omega (arith, n, c.if-stmt-at.false)) coded).size (all_same c.args.self.now c.args.st.now.frames.items c.args.st.now.args.items p c.given.new.st.frames.items c.given.new.st.args.items ((found c.args.self.now c.args.st.now.frames.items c.args.st.now.args.items p callable c.args.stmt.function (omega (arith, n, c.if-stmt-at.false)) coded).it ∷ (found c.args.self.now c.args.st.now.frames.items c.args.st.now.args.items p callable c.args.stmt.function (omega (arith, n, c.if-stmt-at.false)) coded).front) (λ j l. ap (λ (fs : List FrameView). slice_get fs j) (kept_memory c.args.st.now c.target-before.new.st c.given.new.st c.target-before.ensures.keeps c.given.ensures.keeps).room.frames) (λ j l. ap (λ (fs : List FrameView). slice_get fs j) (kept_memory c.args.st.now c.target-before.new.st c.given.new.st c.target-before.ensures.keeps c.given.ensures.keeps).room.arguments) ((found c.args.self.now c.args.st.now.frames.items c.args.st.now.args.items p callable c.args.stmt.function (omega (arith, n, c.if-stmt-at.false)) coded).coded, (found c.args.self.now c.args.st.now.frames.items c.args.st.now.args.items p callable c.args.stmt.function (omega (arith, n, c.if-stmt-at.false)) coded).others)))))
