@@ -16,7 +16,7 @@ ghost use Rattle.c_step_calls.specs.Resting.{RestsAgain};
 ghost use Rattle.c_step.specs.Machines.{loaded_of, IsKnown, IsReady, HasEntry, IsCallee, IsInited};
 
 use c_meaning::values::CValue;
-use c_step_calls::{Called, Room, call_on_host, init_receiver};
+use c_step_calls::{Called, Room, TextCode, call_on_host, init_receiver};
 use c_step_run::{Code, Store};
 use c_step_tables::{MethodEntry, StructEntry, struct_entry};
 use c_text::Unit;
@@ -130,9 +130,12 @@ impl Known {
         ensures replies { Replies (given self.now.surface.value (λ x. x) (c_init (loaded_of self.now) (memory st.old.mem) receiver turns)) result (memory st.new.mem) }
         ensures kind { DoneFits self.now.surface.value status result }
     {
+        let text = TextCode {
+            code: &self.code,
+            statuses: self.statuses.as_slice(),
+        };
         init_receiver(
-            &self.code,
-            self.statuses.as_slice(),
+            text,
             self.initializer(receiver),
             self.pointer(receiver),
             turns,
@@ -159,15 +162,13 @@ impl Known {
         ensures sizes { KeepsSizes result (host_of host.old) (host_of host.new) }
     {
         match self.callee(what, turns) {
-            Some(called) => call_on_host(
-                &self.code,
-                self.statuses.as_slice(),
-                called,
-                what.args,
-                host,
-                room,
-                st,
-            ),
+            Some(called) => {
+                let text = TextCode {
+                    code: &self.code,
+                    statuses: self.statuses.as_slice(),
+                };
+                call_on_host(text, called, what.args, host, room, st)
+            }
             None => Reply::Undefined,
         }
     }

@@ -43,29 +43,37 @@ pub struct Called {
     pub turns: u64,
 }
 
-/// Calls a public function with a host's arguments. `statuses` has the status of each string of the text that has one.
+/// What a text is executed by.
+#[derive(Clone, Copy)]
+pub struct TextCode<'a> {
+    /// The code of its functions.
+    pub code: &'a Code,
+    /// The status of each of its strings that has one.
+    pub statuses: &'a [Option<StatusId>],
+}
+
+/// Calls a public function of a text with a host's arguments.
 pub fn call_on_host(
-    code: &Code,
-    statuses: &[Option<StatusId>],
+    text: TextCode<'_>,
     called: Called,
     args: &[Arg],
     host: &mut Bufs,
     room: &mut Room,
     st: &mut Store,
 ) -> Reply
-    requires rests { IsResting code.now room.old st.old }
-    requires own { called.own < length code.now.functions }
+    requires rests { IsResting text.code.now room.old st.old }
+    requires own { called.own < length text.code.now.functions }
     requires few { length args.now ≤ room.old.most }
     requires there { AreThere (length host.old.bufs) (length host.old.arrays) (map arg_of args.now) }
     requires buffers { AreDistinct (named_buffers (map arg_of args.now)) }
     requires arrays { AreDistinct (named_arrays (map arg_of args.now)) }
-    ensures rests { OnDone result (RestsAgain code.now room.old room.new st.old st.new) }
+    ensures rests { OnDone result (RestsAgain text.entry.code.now room.old room.new st.old st.new) }
     ensures sizes { OnDone result (SameSizes (host_of host.old) (host_of host.new)) }
     ensures replies { (it : Loaded) (s : PublicStruct) (method : PublicMethod) (what : HostCall)
         → function_number it.program.functions (function_name it.surface s method.name) ≡ Some called.own → answer_kind_of called.kind ≡ method.answers
         → room.old.most ≡ most_args it.surface.structs → what.args ≡ map arg_of args.now
-        → slice_get it.surface.statuses 0 ≡ Some [] → AreStatuses it.program it.surface statuses.now
-        → AreCoded code.now st.old.frames.items st.old.args.items it.program it.program.functions
+        → slice_get it.surface.statuses 0 ≡ Some [] → AreStatuses it.program it.surface text.entry.statuses.now
+        → AreCoded text.entry.code.now st.old.frames.items st.old.args.items it.program it.program.functions
         → Replies {After = Memory × Host} (given it.surface (λ x. x) (call_of it (memory st.old.mem) s method what (host_of host.old) called.turns called.receiver)) result (memory st.new.mem, host_of host.new) }
 {
     let places = Places {
@@ -78,9 +86,9 @@ pub fn call_on_host(
     };
     pass(args, host, called.receiver, places, &mut room.given);
     lend(args, host, room.most, places, &mut st.mem, &mut room.spares);
-    match call_by_host(code, active, room.given.as_slice(), called.turns, st) {
+    match call_by_host(text.code, active, room.given.as_slice(), called.turns, st) {
         Ended::Got { value, left: _ } => end(
-            answer(called.kind, value, statuses),
+            answer(called.kind, value, text.statuses),
             args,
             host,
             places,
@@ -94,25 +102,24 @@ pub fn call_on_host(
 
 /// Makes a receiver ready: `initialize` is the number of its struct's function for that, where the text has one.
 pub fn init_receiver(
-    code: &Code,
-    statuses: &[Option<StatusId>],
+    text: TextCode<'_>,
     initialize: Option<usize>,
     receiver: CValue,
     turns: u64,
     room: &Room,
     st: &mut Store,
 ) -> Reply
-    requires rests { IsResting code.now room.now st.old }
-    requires own { IfSome initialize (λ own. own < length code.now.functions) }
-    ensures rests { OnDone result (RestsAgain code.now room.now room.now st.old st.new) }
+    requires rests { IsResting text.code.now room.now st.old }
+    requires own { IfSome initialize (λ own. own < length text.code.now.functions) }
+    ensures rests { OnDone result (RestsAgain text.entry.code.now room.now room.now st.old st.new) }
     ensures replies { (it : Loaded) (s : PublicStruct) → initialize ≡ function_number it.program.functions (initialize_name it.surface s)
-        → slice_get it.surface.statuses 0 ≡ Some [] → AreStatuses it.program it.surface statuses.now
-        → AreCoded code.now st.old.frames.items st.old.args.items it.program it.program.functions
+        → slice_get it.surface.statuses 0 ≡ Some [] → AreStatuses it.program it.surface text.entry.statuses.now
+        → AreCoded text.entry.code.now st.old.frames.items st.old.args.items it.program it.program.functions
         → Replies (given it.surface (λ x. x) (init_of it (memory st.old.mem) s receiver turns)) result (memory st.new.mem) }
 {
     let at = initialize.map(|own| Active {
         own,
         frame: room.objects,
     });
-    init_by_host(code, at, receiver, statuses, turns, st)
+    init_by_host(text.code, at, receiver, text.statuses, turns, st)
 }

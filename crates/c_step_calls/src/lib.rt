@@ -8,5 +8,5 @@ pub mod laws;
 mod passing;
 pub mod room;
 
-pub use calling::{Called, call_on_host, init_receiver};
+pub use calling::{Called, TextCode, call_on_host, init_receiver};
 pub use room::{Room, Spares};

@@ -15,7 +15,7 @@ use Rattle.c_step_calls.proofs.Calls.{room_to_lend, can_enter, more_fits, rests_
 use Rattle.c_step_calls.proofs.calling.call_on_host.Goals as goal
 
 pub lend-requires-clause-fits : goal.lend-requires-clause-fits
-lend-requires-clause-fits c = room_to_lend c.args.code.now c.args.room.now c.args.st.now c.requires.rests (length c.args.args.now) c.requires.few
+lend-requires-clause-fits c = room_to_lend c.args.text.code.now c.args.room.now c.args.st.now c.requires.rests (length c.args.args.now) c.requires.few
 
 pub lend-requires-clause-after : goal.lend-requires-clause-after
 lend-requires-clause-after c = omega (arith, c.requires.rests.objects)
@@ -23,7 +23,7 @@ lend-requires-clause-after c = omega (arith, c.requires.rests.objects)
 pub call_by_host-requires-clause-ready : goal.call_by_host-requires-clause-ready
 call_by_host-requires-clause-ready c =
     let d = during_call (host_of c.args.host.now) (memory c.args.st.now.mem) c.args.room.now.most c.args.args.now (memory c.lend.new.mem) (memory c.lend.new.mem) c.args.room.now.objects c.requires.few c.lend.ensures.memory refl c.requires.rests.objects in
-    can_enter c.args.code.now c.args.room.now c.args.st.now c.requires.rests (length c.args.args.now) c.requires.few (record c.args.st.now { mem = c.lend.new.mem }) c.args.called.own ((c.args.room.now.objects + c.args.room.now.most) + length c.args.args.now) c.requires.own
+    can_enter c.args.text.code.now c.args.room.now c.args.st.now c.requires.rests (length c.args.args.now) c.requires.few (record c.args.st.now { mem = c.lend.new.mem }) c.args.called.own ((c.args.room.now.objects + c.args.room.now.most) + length c.args.args.now) c.requires.own
     refl refl (omega arith) c.lend.ensures.room d.0
 
 pub call_by_host-requires-clause-empty : goal.call_by_host-requires-clause-empty
@@ -55,7 +55,7 @@ end-requires-clause-lent c =
 
 pub end-requires-clause-spares : goal.end-requires-clause-spares
 end-requires-clause-spares c =
-    more_fits c.args.code.now c.args.room.now c.args.st.now c.requires.rests (length c.args.args.now) c.requires.few c.lend.new.spares ((c.args.room.now.objects + c.args.room.now.most) - c.args.room.now.objects) (omega arith) c.lend.ensures.spares
+    more_fits c.args.text.code.now c.args.room.now c.args.st.now c.requires.rests (length c.args.args.now) c.requires.few c.lend.new.spares ((c.args.room.now.objects + c.args.room.now.most) - c.args.room.now.objects) (omega arith) c.lend.ensures.spares
 
 pub returns-in-Got-clause-rests : goal.returns-in-Got-clause-rests
 returns-in-Got-clause-rests c =
@@ -63,7 +63,7 @@ returns-in-Got-clause-rests c =
     let d = during_call (host_of c.args.host.now) (memory c.args.st.now.mem) c.args.room.now.most c.args.args.now (memory c.lend.new.mem) (memory c.call_by_host.new.st.mem) n c.requires.few c.lend.ensures.memory c.in-Got.ensures.keeps.shape c.requires.rests.objects in
     let within : n ≤ length (memory c.call_by_host.new.st.mem) = omega (arith, d.0) in
     on_done c.end.result _ _ _ _
-    (λ m s r. rests_again c.args.code.now c.args.room.now c.args.st.now c.requires.rests (length c.args.args.now) c.requires.few (record c.args.st.now { mem = c.lend.new.mem }) c.call_by_host.new.st (record c.call_by_host.new.st { mem = c.end.new.mem })
+    (λ m s r. rests_again c.args.text.code.now c.args.room.now c.args.st.now c.requires.rests (length c.args.args.now) c.requires.few (record c.args.st.now { mem = c.lend.new.mem }) c.call_by_host.new.st (record c.call_by_host.new.st { mem = c.end.new.mem })
     (record c.args.room.now { spares = c.end.new.spares; given = c.pass.new.given }) c.lend.new.spares (n + c.args.room.now.most) ((n + c.args.room.now.most) - n) refl refl (omega arith) c.lend.ensures.room c.in-Got.ensures.keeps refl refl refl (omega arith) refl r
     (ap (λ (xs : Memory). length xs) m ∙ taken_length (memory c.call_by_host.new.st.mem) n within) (omega arith) c.lend.ensures.spares s c.pass.ensures.room refl refl)
     c.end.ensures.memory c.end.ensures.spares c.end.ensures.room
