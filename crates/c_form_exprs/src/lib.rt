@@ -1,5 +1,6 @@
 //! Names of a C text in tables, and the types of its forms by those of their parts (ISO/IEC 9899:1999, 6.2.1, 6.5),
-//! exactly as `CTypes` has them. A name is looked up by its number in the unit.
+//! exactly as `CTypes` has them. A name of a unit is looked up by its number there, in a `NameTable`; a `SpellingTable` looks
+//! names up by their bytes.
 #![tactic(auto)]
 
 mod callable;

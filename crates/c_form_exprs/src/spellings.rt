@@ -1,7 +1,7 @@
-// Tables from names to what they declare, where only the bytes of a name are at hand. Contracts see the names with what they
-// declare, in the order in which they were added. A name is looked up in ordered maps, so that a look-up takes few comparisons
-// whatever the names are: by a number made of its bytes first, and by its bytes where another name has the same number. A
-// look-up takes time in proportion to the name.
+// Tables from names to what they declare, by the bytes of the names: for names that are no unit's, and for names that are looked
+// up only where they stand themselves. Contracts see the names with what they declare, in the order in which they were added. A
+// name is looked up in ordered maps, so that a look-up takes few comparisons whatever the names are: by a digest of its bytes
+// first, and by its bytes where another name has the same digest. A look-up takes time in proportion to the name.
 
 ghost use Rattle.std.specs.Prelude.{◌≡◌, ◌++◌, [], ◌∷◌, if◌then◌else◌, is_none, position, None, IfOk, OnOk, OnErr};
 ghost use Rattle.std.specs.Str.{bytes_eq};
@@ -68,7 +68,7 @@ impl<'u, V: Copy + Drop> SpellingTable<'u, V> {
     }
 
     /// The place of the name among those of the table.
-    pub fn place(&self, name: &[u8]) -> Option<usize>
+    fn place(&self, name: &[u8]) -> Option<usize>
         ensures { result ≡ position (λ entry. bytes_eq entry.0 name.now) self.now }
     {
         let place = *self.firsts.get(&digest(name))?;

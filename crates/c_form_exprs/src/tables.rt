@@ -68,7 +68,7 @@ impl<'u, V: Copy + Drop> NameTable<'u, V> {
     }
 
     /// The place of the name among those of the table.
-    pub fn place(&self, name: CNameId) -> Option<usize>
+    pub(crate) fn place(&self, name: CNameId) -> Option<usize>
         requires { name.0 < length self.now.names }
         ensures { result ≡ position (λ entry. bytes_eq entry.0 (bytes_at self.now.names name.0)) self.now.entries }
     {
