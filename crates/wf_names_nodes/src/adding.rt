@@ -10,14 +10,16 @@ ghost use Rattle.wf_names_resolve.specs.Resolved.{word_of};
 ghost use Rattle.wf_names_resolve.specs.Package.{resolved_const, resolved_struct, resolved_method};
 ghost use Rattle.wf_names_nodes.specs.Declaring.{method_parsed, with_consts, with_statuses, with_structs, with_methods};
 
-use crate::declarations::{WrittenStruct, resolve_const, resolve_method, resolve_struct};
+use crate::declarations::{
+    WrittenMethod, WrittenStruct, resolve_const, resolve_method, resolve_struct,
+};
 use std::alloc::Global;
 use wf_ast::PackageNodes;
 use wf_ast::parsed::Name;
 use wf_named::NamedNodes;
 use wf_names_resolve::words::named_word;
 use wf_names_rules::here::Here;
-use wf_names_scopes::written::{WrittenConst, WrittenMethod};
+use wf_names_scopes::written::WrittenConst;
 use wf_text::faults::NoMemory;
 
 /// Adds a constant; `scope` knows those before it.

@@ -16,7 +16,7 @@ ghost use Rattle.wf_names_nodes.specs.Declaring.{method_parsed};
 
 use crate::variables::{resolve_fields, resolve_locals, resolve_result, resolve_variable};
 use std::alloc::Global;
-use wf_ast::parsed::{Block, Field, Name, TypeExpr};
+use wf_ast::parsed::{Block, Field, Name, TypeExpr, WrittenMark};
 use wf_ast::{Sequence, StructId};
 use wf_named::nodes::NamedType;
 use wf_named::{NamedConst, NamedMethod, NamedNodes, NamedStruct, NamedVar};
@@ -26,7 +26,7 @@ use wf_names_resolve::resolve_stmts::resolve_body;
 use wf_names_resolve::words::named_word;
 use wf_names_rules::here::Here;
 use wf_names_rules::tables::Tables;
-use wf_names_scopes::written::{WrittenConst, WrittenMethod};
+use wf_names_scopes::written::WrittenConst;
 use wf_text::faults::NoMemory;
 
 /// Adds the nodes of a constant's type and value, and answers the constant.
@@ -142,6 +142,19 @@ fn owned_by(tables: &Tables, owner: Name) -> StructId
     ensures { result.0 ≡ or_zero (number_at tables.now.structs owner.text.0) }
 {
     StructId(number_or(tables.structs.numbers.get(&owner.text.0).copied()))
+}
+
+/// What a method's declaration says.
+#[derive(Clone, Copy)]
+pub(crate) struct WrittenMethod<'a> {
+    pub public: bool,
+    /// The struct that it is a method of.
+    pub owner: Name,
+    pub name: Name,
+    pub mark: WrittenMark,
+    pub args: &'a [Field],
+    pub gives: &'a Option<TypeExpr>,
+    pub body: &'a Block,
 }
 
 /// Adds the nodes of a method's types and of its body, and answers the method. `scope` knows its arguments and its

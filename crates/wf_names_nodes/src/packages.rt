@@ -13,7 +13,7 @@ ghost use Rattle.wf_names_resolve.specs.Package.{resolved_consts, struct_in, met
 ghost use Rattle.wf_names_nodes.specs.Declaring.{method_parsed, with_consts, with_structs, with_methods, with_others};
 
 use crate::adding::{put_const, put_method, put_status, put_struct};
-use crate::declarations::WrittenStruct;
+use crate::declarations::{WrittenMethod, WrittenStruct};
 use std::alloc::Global;
 use wf_ast::PackageNodes;
 use wf_ast::parsed::{Decl, DeclNode};
@@ -21,7 +21,7 @@ use wf_named::NamedNodes;
 use wf_names_rules::here::Here;
 use wf_names_rules::tables::{Scope, Tables};
 use wf_names_scopes::scopes::{enter_method, enter_struct, outside, pass_constant};
-use wf_names_scopes::written::{WrittenConst, WrittenMethod};
+use wf_names_scopes::written::WrittenConst;
 use wf_text::faults::NoMemory;
 
 // A constant, which is known after its declaration.

@@ -10,7 +10,7 @@ ghost use Rattle.wf_names_rules.specs.Jumps.{block_jumps, jumped};
 ghost use Rattle.wf_names_rules.specs.Judged.{walked};
 ghost use Rattle.wf_names_rules.specs.Called.{with_calls};
 
-use crate::written::WrittenMethod;
+use crate::written::MethodParts;
 use graphs::rows::Row;
 use std::alloc::Global;
 use wf_ast::ExprId;
@@ -99,7 +99,7 @@ pub(crate) fn walk_method(
     seen: &mut Seen,
     gathered: &mut Gathered,
     here: &Here<'_>,
-    method: WrittenMethod<'_>,
+    method: MethodParts<'_>,
 ) -> Result<(), NoMemory>
     requires args { FieldsBelow (length here.now.parsed.now.exprs) method.args.now }
     requires gives { ResultBelow (length here.now.parsed.now.exprs) method.gives.now }

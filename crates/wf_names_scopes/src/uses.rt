@@ -17,7 +17,7 @@ ghost use Rattle.wf_names_scopes.specs.UsesFound.{sites_judged, names_found};
 
 use crate::declared_uses::{walk_constant, walk_fields, walk_method};
 use crate::scopes::{enter_method, enter_struct, outside, pass_constant};
-use crate::written::{WrittenConst, WrittenMethod};
+use crate::written::{MethodParts, WrittenConst};
 use graphs::rows::Row;
 use std::alloc::Global;
 use wf_ast::parsed::{Decl, DeclNode, Field, Name, TypeExpr};
@@ -213,7 +213,7 @@ fn method_uses(
     gathered: &mut Gathered,
     whole: &Whole<'_>,
     scope: &Scope,
-    method: WrittenMethod<'_>,
+    method: MethodParts<'_>,
 ) -> Result<(), NoMemory>
     requires args { FieldsBelow (length whole.now.parsed.now.exprs) method.args.now }
     requires gives { ResultBelow (length whole.now.parsed.now.exprs) method.gives.now }
@@ -267,17 +267,13 @@ fn method_decl(
     match &node.decl {
         Decl::Method {
             of,
-            name,
-            mark,
             args,
             gives,
             body,
+            ..
         } => {
-            let method = WrittenMethod {
-                public: node.public,
+            let method = MethodParts {
                 owner: *of,
-                name: *name,
-                mark: *mark,
                 args: args.as_slice(),
                 gives,
                 body,

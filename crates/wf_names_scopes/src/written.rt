@@ -1,7 +1,7 @@
 // What declarations say, as they are written.
 
 use wf_ast::ExprId;
-use wf_ast::parsed::{Block, Field, Name, TypeExpr, WrittenMark};
+use wf_ast::parsed::{Block, Field, Name, TypeExpr};
 
 /// What a constant's declaration says.
 #[derive(Clone, Copy)]
@@ -11,14 +11,11 @@ pub struct WrittenConst<'a> {
     pub value: ExprId,
 }
 
-/// What a method's declaration says.
+/// What of a method's declaration uses names.
 #[derive(Clone, Copy)]
-pub struct WrittenMethod<'a> {
-    pub public: bool,
+pub(crate) struct MethodParts<'a> {
     /// The struct that it is a method of.
     pub owner: Name,
-    pub name: Name,
-    pub mark: WrittenMark,
     pub args: &'a [Field],
     pub gives: &'a Option<TypeExpr>,
     pub body: &'a Block,

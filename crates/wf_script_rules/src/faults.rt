@@ -2,8 +2,10 @@
 
 ghost use Rattle.std.specs.Prelude.{◌≡◌};
 ghost use Rattle.wf_script_rules.specs.declared.faults.LineFault.TheVariants.{Refused, Memory};
+ghost use Rattle.wf_script_rules.specs.Answers.{decoding_fault};
 
 use crate::rules::XRule;
+use hex::FromHexError;
 use std::alloc::{AllocError, AllocFailed};
 use wf_text::NoMemory;
 
@@ -45,5 +47,18 @@ impl From<NoMemory> for LineFault {
 
     fn from(_refused: NoMemory) -> LineFault {
         LineFault::Memory
+    }
+}
+
+impl From<FromHexError> for LineFault {
+    ghost from_gives = { λ why fault. fault ≡ decoding_fault why };
+
+    fn from(why: FromHexError) -> LineFault {
+        match why {
+            FromHexError::OutOfMemory => LineFault::Memory,
+            FromHexError::InvalidHexCharacter { .. }
+            | FromHexError::OddLength
+            | FromHexError::InvalidStringLength => LineFault::Refused(XRule::X3),
+        }
     }
 }

@@ -10,7 +10,6 @@ ghost use Rattle.wf_script_rules.specs.Answers.{Gives};
 
 use crate::faults::LineFault;
 use crate::rules::{Verb, XRule};
-use hex::FromHexError;
 use std::alloc::Global;
 
 /// Where something that has to hold doesn't, a rule is broken.
@@ -137,11 +136,8 @@ pub fn bytes_spelt(alloc: Global, word: &[u8]) -> Result<Vec<u8>, LineFault>
     if word == b"-".as_slice() {
         return Ok(Vec::new(alloc));
     }
-    match hex::decode(alloc, word) {
-        Ok(bytes) => Ok(bytes),
-        Err(FromHexError::OutOfMemory) => Err(LineFault::Memory),
-        Err(_) => Err(LineFault::Refused(XRule::X3)),
-    }
+    let bytes = hex::decode(alloc, word)?;
+    Ok(bytes)
 }
 
 fn mark_at(mark: u8, word: &[u8]) -> Option<usize>
