@@ -1,13 +1,14 @@
 // When two facts are one.
 
-ghost use Rattle.std.specs.Prelude.{◌≡◌, true};
+ghost use Rattle.std.specs.Prelude.{◌≡◌, ◌&&◌, true, false};
 ghost use Rattle.wf_ast.specs.TypedTrees.{tree_of, cond_in};
 ghost use Rattle.wf_ast.specs.Same.{same_cond, same_order};
 ghost use Rattle.wf_ast.specs.NodeKinds.{is_condition_at};
-ghost use Rattle.wf_facts_exprs.specs.Claims.{claim_in, same_claim, is_fact, order_of};
+ghost use Rattle.wf_facts_exprs.specs.Claims.{claim_in, same_claim, same_side as same_trees, is_fact, is_side, order_of, side_in};
 
+use crate::forms::side_number;
 use wf_ast::{ExprId, Typed, same};
-use wf_facts_exprs::{Cmp, Fact, same_side};
+use wf_facts_exprs::{Cmp, Fact, Side, same_side};
 
 /// Whether two facts claim the same: the same comparison of the same sides, or the same condition with the same answer.
 pub(crate) fn same_fact(t: &Typed, f: Fact, g: Fact) -> bool
@@ -21,13 +22,37 @@ pub(crate) fn same_fact(t: &Typed, f: Fact, g: Fact) -> bool
                 left: l,
                 op: o,
                 right: r,
-            } => { same_cmp(op, o) && (same_side(t, left, l) && same_side(t, right, r)) }
+            } => same_cmp(op, o) && same_sides(t, left, l, right, r),
             Fact::Cond { .. } => false,
         },
         Fact::Cond { expr, answer } => match g {
             Fact::Compare { .. } => false,
             Fact::Cond { expr: e, answer: a } => answer == a && same_condition(t, expr, e),
         },
+    }
+}
+
+// Whether two left sides are one, and two right sides. Those on the right mostly are numbers, which are told apart in a few
+// steps, and come first.
+fn same_sides(t: &Typed, left: Side, l: Side, right: Side, r: Side) -> bool
+    requires left { is_side t.now left ≡ true }
+    requires l { is_side t.now l ≡ true }
+    requires right { is_side t.now right ≡ true }
+    requires r { is_side t.now r ≡ true }
+    ensures { result ≡ (same_trees (side_in t.now left) (side_in t.now l) && same_trees (side_in t.now right) (side_in t.now r)) }
+{
+    !are_other_numbers(t, right, r) && (same_side(t, right, r) && same_side(t, left, l))
+}
+
+// Whether two sides are two numbers.
+fn are_other_numbers(t: &Typed, a: Side, b: Side) -> bool
+    requires a { is_side t.now a ≡ true }
+    requires b { is_side t.now b ≡ true }
+    ensures { result ≡ true → same_trees (side_in t.now a) (side_in t.now b) ≡ false }
+{
+    match (side_number(t, a), side_number(t, b)) {
+        (Some(m), Some(n)) => m != n,
+        _ => false,
     }
 }
 
