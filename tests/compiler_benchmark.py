@@ -1,12 +1,13 @@
 #!/usr/bin/env python3
-"""How the cost of `gen` grows with a package, and its time beside that of compilers on the text that it writes. It isn't part of
-.ci/run.
+"""How the cost of `gen` grows with a package, and its time beside that of compilers on the text that it writes. .ci/run looks at the
+growth.
 
-usage: compiler_benchmark.py PROGRAM [SHAPE..]    all shapes are the default
+usage: compiler_benchmark.py PROGRAM [--growth] [SHAPE..]    all shapes are the default
 The shapes are those of check_benchmark.py and a few of what `gen` alone makes much of; each grows by steps of two up to what its limit
 allows. What is counted is as it is there: instructions, where valgrind is there. The cost of a package without declarations is
 taken off. For each step comes the exponent of its growth, over the step's factor or that of the bytes read and written where this is
-larger, since the text of a coroutine grows with its points times its locals; what passes 1.10 at the last step is told as too much.
+larger, since the text of a coroutine grows with its points times its locals; what passes 1.10 at the last step is told as too much,
+and ends the run with 1. With --growth that is all, and without valgrind nothing is measured then, since seconds tell too little.
 For the largest package of each shape comes the least time of three runs of `gen`, and of `tcc -c` and `gcc -O0 -c` on the text that it
 writes, one after another in turn, with the factor of `gen`, which checks the package first, over `tcc -c`. Compilers that aren't there
 are skipped.
@@ -120,14 +121,20 @@ def beside_compilers(meter, name, text):
 
 
 def main():
-    if len(sys.argv) < 2 or any(name not in SHAPES for name in sys.argv[2:]):
+    words = sys.argv[1:]
+    alone = "--growth" in words
+    program, *names = [word for word in words if word != "--growth"] or [""]
+    if not program or any(name not in SHAPES for name in names):
         print(__doc__)
         return 2
+    if alone and not shutil.which("valgrind"):
+        print("there is no valgrind, so the growth of gen wasn't measured")
+        return 0
     with tempfile.TemporaryDirectory() as at:
-        meter = Meter(os.path.abspath(sys.argv[1]), pathlib.Path(at))
-        names = sys.argv[2:] or list(SHAPES)
+        meter = Meter(os.path.abspath(program), pathlib.Path(at))
+        names = names or list(SHAPES)
         good = [grows(meter, name, *SHAPES[name]) for name in names]
-        for name in names:
+        for name in [] if alone else names:
             make, sizes = SHAPES[name]
             beside_compilers(meter, name, make(sizes[-1]))
     return 0 if all(good) else 1

@@ -6,8 +6,8 @@ usage: decoder_instructions.py PROGRAM [CC]
 
 The packages are packbits.wuffs (a reader and a writer), rows.wuffs (slices) and lzw.wuffs (tables in its struct) of tests/decoders,
 those by hand *_by_hand.c beside them. Both get the same bytes in the same pieces and have to give the
-same output. Prints a line for each, with the factor, and ends with 1 where an output differs or a factor is above 1.25. It isn't
-part of .ci/run, and ends with 0 where gcc or valgrind is missing.
+same output. Prints a line for each, with the factor, and ends with 1 where an output differs or a factor is above 1.25, and with 0
+where gcc or valgrind is missing.
 """
 import pathlib
 import random

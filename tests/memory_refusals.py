@@ -1,6 +1,6 @@
 #!/usr/bin/env python3
 """Refuses each allocation of a command once: nothing may be written, and the exit status has to be that of want of memory. A refusal
-after which the library asks again may leave the answer as it is. It isn't part of .ci/run.
+after which the library asks again may leave the answer as it is. Without gcc it tells so, and ends with 0.
 
 usage: memory_refusals.py PROGRAM [COMMAND [FROM TO]]    check, gen, mean, run and exec, and all of their allocations, are the default
 The package and the script are examples/parser. A small library, which gcc makes and the loader puts before the C library, counts the
@@ -9,6 +9,7 @@ and the refusals that changed nothing; the last line counts.
 """
 import os
 import pathlib
+import shutil
 import subprocess
 import sys
 import tempfile
@@ -71,6 +72,9 @@ class Runs:
 
 def main():
     words = sys.argv[2:]
+    if not shutil.which("gcc"):
+        print("there is no gcc, so no allocation was refused")
+        return 0
     passed = failed = 0
     with tempfile.TemporaryDirectory() as at:
         runs = Runs(os.path.abspath(sys.argv[1]), pathlib.Path(at))
