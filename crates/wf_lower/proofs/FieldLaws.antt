@@ -34,9 +34,8 @@ use Rattle.c_text.specs.CTree.{TypeTree, uint, plain, FieldTree, struct_item}
 use Rattle.wf_exprs.specs.Grown.{Grows, HasNamed}
 use Rattle.wf_exprs.specs.Names.{point_field, saved_field}
 use Rattle.wf_exprs.specs.Words.{literal, width_of}
-use Rattle.wf_lower_stmts.specs.Forms.{is_kept}
 use Rattle.wf_lower.specs.Made.{AddsFields, HasFieldTree, HasFieldTrees, HasItemTree, IsPlain}
-use Rattle.wf_lower.specs.Structs.{count_fields, held_fields, kept_of, method_fields, started_of}
+use Rattle.wf_lower.specs.Structs.{count_fields, held_fields, kept_field, kept_of, method_fields, started_of}
 use Rattle.wf_lower.specs.Unit.{field, kept_fields, kept_type}
 use Rattle.wf_lower.proofs.Known.{count_same, method_at}
 use Rattle.wf_lower.proofs.PartLaws.{method_keeps, method_keeps_none}
@@ -79,11 +78,10 @@ pub kept_put : {b : Nodes} (kind : CType) (tree : TypeTree) (spelt : List ℕ) (
 kept_put {b} kind tree spelt name nameless h = ap (λ t. field t (bytes_at b.names name.0)) (nameless.is b.names) ∙ ap (field tree) h.is
 
 -- The field that keeps a local.
-pub kept_field : {b : Nodes} (nodes : TypedNodes) (method : List ℕ) (x : Var) (local : List ℕ) (kind : CType) (name : CNameId) → is_kept x.ty ≡ true → text_of nodes x.name ≡ local → IsPlain kind (kept_type x.ty) → HasNamed b name.0 (saved_field method local)
-    → field (type_in b.names kind) (bytes_at b.names name.0) ∷ [] ≡ kept_fields method (variable_of nodes x ∷ [])
-kept_field {b} nodes method x local kind name is same nameless h =
+pub kept_made : {b : Nodes} (nodes : TypedNodes) (method : List ℕ) (x : Var) (local : List ℕ) (kind : CType) (name : CNameId) → text_of nodes x.name ≡ local → IsPlain kind (kept_type x.ty) → HasNamed b name.0 (saved_field method local)
+    → field (type_in b.names kind) (bytes_at b.names name.0) ∷ [] ≡ kept_field method (variable_of nodes x) ∷ []
+kept_made {b} nodes method x local kind name same nameless h =
     ap (λ f. f ∷ []) (kept_put kind (kept_type x.ty) (saved_field method local) name nameless h ∙ ap (λ l. field (kept_type x.ty) (saved_field method l)) (sym same))
-    ∙ sym (ap (λ t. if t then field (kept_type x.ty) (saved_field method (text_of nodes x.name)) ∷ [] else []) is)
 
 -- What a started statement has.
 pub number_made : {b : Nodes} (there : Bool) (ty : CUint) (spelt : List ℕ) (name : CNameId) → there ≡ true → HasNamed b name.0 spelt → field (uint ty) (bytes_at b.names name.0) ∷ [] ≡ (if there then field (uint ty) spelt ∷ [] else [])

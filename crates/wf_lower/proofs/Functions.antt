@@ -11,7 +11,7 @@ use Rattle.wf_ast.specs.declared.typed_nodes.TypedNodes.{TypedNodes}
 use Rattle.wf_ast.specs.TypedInvariant.{IsTyped, block_below}
 use Rattle.wf_ast.specs.TypedPackage.{MethodTree, PackageTree, method_of, package_of}
 use Rattle.wf_ast.specs.TypedTrees.{block_of}
-use Rattle.wf_points.specs.PointNumbers.{number_at, point_number}
+use Rattle.wf_points.specs.PointNumbers.{PointTable, number_at, point_number}
 use Rattle.c_text.specs.declared.nodes.CItem.{CItem}
 use Rattle.c_text.specs.CNodes.{Nodes}
 use Rattle.c_text.specs.CTree.{ItemTree}
@@ -88,8 +88,8 @@ module _ (nodes : TypedNodes) (n : ℕ) (body : Block) (there : n < length nodes
       let e : method_of nodes found.0 body ≡ m = cc (at, known) in
       ap (λ (it : MethodTree). it.body) e
 
-  pub is_body : (b : BodyTree) (numbers : List (Option ℕ)) → IsReady nodes numbers → b.nodes ≡ nodes → b.numbers ≡ numbers → slice_get (package_of nodes).methods n ≡ Some (form_in b).method → IsBodyOf b body
-  is_body b numbers ready e f known = record {
+  pub is_body : (b : BodyTree) (points : PointTable) → IsReady nodes points → b.nodes ≡ nodes → b.numbers ≡ points.numbers → slice_get (package_of nodes).methods n ≡ Some (form_in b).method → IsBodyOf b body
+  is_body b points ready e f known = record {
     number = n;
     known = ap (λ (t : TypedNodes). slice_get (package_of t).methods n) e ∙ known;
     below = ap (λ (t : TypedNodes). block_below (length t.stmts) body) e ∙ body_there nodes ready.typed n body is;

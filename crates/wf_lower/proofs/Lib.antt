@@ -8,6 +8,7 @@ pub mod KeptLaws
 pub mod Known
 pub mod LocalLaws
 pub mod PartLaws
+pub mod SavedFields
 pub mod Small
 pub mod Texts
 pub mod Walks

@@ -1,10 +1,11 @@
 -- What lowering makes of a list of the source is made item by item.
 use Rattle.std.proofs.Common.{◌≡◌, ◌∙◌, ap, sym, ℕ, suc, Bool, true, false, ◌&&◌, if◌then◌else◌, List, [], ◌∷◌, ◌++◌, map, refl, codes}
-use Rattle.std.specs.Prelude.{nat_eq}
+use Rattle.std.specs.Prelude.{nat_eq, slice_get}
 use Rattle.wf_ast.specs.declared.declarations.Var.{Var}
 use Rattle.wf_ast.specs.declared.types.Ty.{Ty}
 use Rattle.wf_ast.specs.declared.types.Ty.TheVariants as types
 use Rattle.wf_ast.specs.declared.typed_nodes.TypedNodes.{TypedNodes}
+use Rattle.wf_ast.specs.declared.variables.LocalId.{LocalId}
 use Rattle.wf_ast.specs.TypedPackage.{MethodTree, PackageTree, kind_of, variable_of}
 use Rattle.wf_ast.specs.WellTyped.{is_coroutine}
 use Rattle.c_text.proofs.Trees.{append_nil}
@@ -12,10 +13,10 @@ use Rattle.c_text.specs.CTree.{Code, FieldTree, ParamTree, LocalTree, ItemTree, 
 use Rattle.c_meaning.specs.UnitForm.{arg_params, args_params}
 use Rattle.wf_exprs.specs.Names.{status_name}
 use Rattle.wf_exprs.specs.Reads.{code_reads}
-use Rattle.wf_lower_stmts.specs.Forms.{Form, is_io, is_kept}
+use Rattle.wf_lower_stmts.specs.Forms.{Form, is_io}
 use Rattle.wf_lower.specs.Bodies.{bytes_locals, io_locals, local_of, locals_of, only_read, public_args}
-use Rattle.wf_lower.specs.Structs.{kept_of, method_fields, typed_field}
-use Rattle.wf_lower.specs.Unit.{coroutine_fields, is_used, kept_fields, methods_fields, source_field, used_texts}
+use Rattle.wf_lower.specs.Structs.{field_if, kept_of, listed_fields, method_fields, typed_field}
+use Rattle.wf_lower.specs.Unit.{coroutine_fields, is_used, methods_fields, source_field, used_texts}
 
 pub front_nil : {A : Type 0} (xs ys : List A) → xs ++ ys ≡ (xs ++ []) ++ ys
 front_nil xs ys = ap (λ l. l ++ ys) (sym (append_nil xs))
@@ -67,12 +68,12 @@ bytes_walk f nodes n xs = bytes_locals f n (map (variable_of nodes) xs)
 pub bytes_cons : (f : Form) (nodes : TypedNodes) (n : ℕ) (x : Var) (xs : List Var) → bytes_walk f nodes n (x ∷ xs) ≡ bytes_walk f nodes n (x ∷ []) ++ bytes_walk f nodes (suc n) xs
 bytes_cons f nodes n x xs = one_or_none (is_io x.ty) _ (bytes_locals f (suc n) (map (variable_of nodes) xs))
 
--- What a coroutine keeps.
-abbrev pub kept_walk : (method : List ℕ) → TypedNodes → ℕ → List Var → List FieldTree
-kept_walk method nodes n xs = kept_fields method (map (variable_of nodes) xs)
+-- What a coroutine keeps, by the numbers of its locals.
+abbrev pub kept_walk : (method : List ℕ) → TypedNodes → List Var → ℕ → List LocalId → List FieldTree
+kept_walk method nodes locals n xs = listed_fields method (map (variable_of nodes) locals) xs
 
-pub kept_cons : (method : List ℕ) (nodes : TypedNodes) (n : ℕ) (x : Var) (xs : List Var) → kept_walk method nodes n (x ∷ xs) ≡ kept_walk method nodes n (x ∷ []) ++ kept_walk method nodes (suc n) xs
-kept_cons method nodes n x xs = one_or_none (is_kept x.ty) _ (kept_walk method nodes (suc n) xs)
+pub kept_cons : (method : List ℕ) (nodes : TypedNodes) (locals : List Var) (n : ℕ) (x : LocalId) (xs : List LocalId) → kept_walk method nodes locals n (x ∷ xs) ≡ kept_walk method nodes locals n (x ∷ []) ++ kept_walk method nodes locals (suc n) xs
+kept_cons method nodes locals n x xs = front_nil (field_if method (slice_get (map (variable_of nodes) locals) x.0)) (kept_walk method nodes locals (suc n) xs)
 
 -- What the methods of a struct keep.
 pub methods_cons : (s n : ℕ) (m : MethodTree) (ms : List MethodTree) → methods_fields s (m ∷ ms) ≡ methods_fields s (m ∷ []) ++ methods_fields s ms

@@ -21,11 +21,11 @@ use Rattle.wf_lower.proofs.Kept.{keeps_by}
 use Rattle.wf_lower.proofs.Small.{points_small}
 use Rattle.wf_lower.proofs.Texts.{by_list, by_on, same_grown, still_read}
 
-ready_as : (a : AcceptedPackage) → IsAccepted a → IsSpelt a.nodes → IsReady a.nodes a.points.numbers
-ready_as a kept spelt = record { typed = kept.typed; spelt = spelt; small = points_small a.nodes kept.typed kept.few a.points.numbers kept.numbers; numbered = kept.numbers }
+ready_as : (a : AcceptedPackage) → IsAccepted a → IsSpelt a.nodes → IsReady a.nodes a.points
+ready_as a kept spelt = record { typed = kept.typed; spelt = spelt; small = points_small a.nodes kept.typed kept.few a.points.numbers kept.numbers; numbered = kept.numbers; saved = kept.saved }
 
-pub ready : (a : AcceptedPackage) → IsAccepted a → IsSpelt a.nodes → (t : TypedNodes) (points : PointTable) → t ≡ a.nodes → points ≡ a.points → IsReady t points.numbers
-ready a kept spelt t points e f = subst (λ (n : TypedNodes). IsReady n points.numbers) (sym e) (subst (λ (q : PointTable). IsReady a.nodes q.numbers) (sym f) (ready_as a kept spelt))
+pub ready : (a : AcceptedPackage) → IsAccepted a → IsSpelt a.nodes → (t : TypedNodes) (points : PointTable) → t ≡ a.nodes → points ≡ a.points → IsReady t points
+ready a kept spelt t points e f = subst (λ (n : TypedNodes). IsReady n points) (sym e) (subst (λ (q : PointTable). IsReady a.nodes q) (sym f) (ready_as a kept spelt))
 
 pub whole_text : (a b : Nodes) (items : List ItemTree) → a ≡ no_nodes → GrowsBy items a b → unit_tree b ≡ items
 unfolding unit_tree

@@ -7,7 +7,7 @@ use Rattle.wf_ast.specs.TypedInvariant.{IsTyped}
 use Rattle.wf_ast.specs.TypedPackage.{Variable, MethodTree, PackageTree, package_of, variable_of}
 use Rattle.wf_ast.specs.WellTyped.{is_coroutine}
 use Rattle.wf_meaning.specs.Entry.{bad_receiver}
-use Rattle.wf_points.specs.PointNumbers.{number_at, point_number}
+use Rattle.wf_points.specs.PointNumbers.{PointTable, number_at, point_number, saved_locals}
 use Rattle.c_text.specs.declared.kinds.CUnary.TheVariants.{Not}
 use Rattle.c_text.specs.declared.nodes.CArg.{CArg}
 use Rattle.c_text.specs.declared.nodes.CField.{CField}
@@ -163,9 +163,11 @@ pub record IsSpelt (nodes : TypedNodes) : Type 0 where
   pub words : HasWords nodes
   pub strings : list_all is_string nodes.statuses ≡ true
 
--- The package keeps its rules, its names and texts are spelt so, and the table has the numbers of its points, which are small.
-pub record IsReady (nodes : TypedNodes) (numbers : List (Option ℕ)) : Type 0 where
+-- The package keeps its rules, its names and texts are spelt so, and the table has the numbers of its points, which are small, and
+-- the locals that its methods keep.
+pub record IsReady (nodes : TypedNodes) (points : PointTable) : Type 0 where
   pub typed : IsTyped nodes
   pub spelt : IsSpelt nodes
-  pub small : AreSmall numbers
-  pub numbered : (s : ℕ) → number_at numbers s ≡ point_number (package_of nodes).methods s
+  pub small : AreSmall points.numbers
+  pub numbered : (s : ℕ) → number_at points.numbers s ≡ point_number (package_of nodes).methods s
+  pub saved : points.saved ≡ map saved_locals (package_of nodes).methods

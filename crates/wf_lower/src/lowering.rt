@@ -75,7 +75,7 @@ fn add_initialize(
     s: u32,
     functions: &mut Vec<CItem>,
 ) -> Result<(), NoMemory>
-    requires ready { IsReady p.now.t.now p.now.points.now.numbers }
+    requires ready { IsReady p.now.t.now p.now.points.now }
     requires known { s < length p.now.t.now.structs }
     ensures grows { Grows u.old u.new }
     ensures made { OnOk result (AddsFunctions u.old u.new functions.old.items functions.new.items (initialize_function_of (package_of p.now.t.now) s ∷ [])) }
@@ -93,7 +93,7 @@ fn put_into(items: &mut Vec<CItem>, item: CItem) -> Result<(), NoMemory>
 }
 
 fn add_all_initialize(p: &Source, u: &mut Unit, functions: &mut Vec<CItem>) -> Result<(), NoMemory>
-    requires { IsReady p.now.t.now p.now.points.now.numbers }
+    requires { IsReady p.now.t.now p.now.points.now }
     ensures grows { Grows u.old u.new }
     ensures made { OnOk result (AddsFunctions u.old u.new functions.old.items functions.new.items (initialize_functions (package_of p.now.t.now) (package_of p.now.t.now).struct_order)) }
 {
@@ -112,7 +112,7 @@ fn add_body(
     functions: &mut Vec<CItem>,
     read: &mut ReadNames,
 ) -> Result<(), NoMemory>
-    requires ready { IsReady p.now.t.now p.now.points.now.numbers }
+    requires ready { IsReady p.now.t.now p.now.points.now }
     requires known { m.0 < length p.now.t.now.methods }
     ensures grows { Grows u.old u.new }
     ensures made { OnOk result ((method : MethodTree) → slice_get (package_of p.now.t.now).methods m.0 ≡ Some method → AddsFunctions u.old u.new functions.old.items functions.new.items (body_function_of (form_of (package_of p.now.t.now) method) ∷ [])) }
@@ -129,7 +129,7 @@ fn add_entry(
     m: MethodId,
     functions: &mut Vec<CItem>,
 ) -> Result<(), NoMemory>
-    requires ready { IsReady p.now.t.now p.now.points.now.numbers }
+    requires ready { IsReady p.now.t.now p.now.points.now }
     requires known { m.0 < length p.now.t.now.methods }
     ensures grows { Grows u.old u.new }
     ensures made { OnOk result ((method : MethodTree) → slice_get (package_of p.now.t.now).methods m.0 ≡ Some method → AddsFunctions u.old u.new functions.old.items functions.new.items (entry_functions (package_of p.now.t.now) m.0 method)) }
@@ -150,7 +150,7 @@ fn add_method(
     functions: &mut Vec<CItem>,
     read: &mut ReadNames,
 ) -> Result<(), NoMemory>
-    requires ready { IsReady p.now.t.now p.now.points.now.numbers }
+    requires ready { IsReady p.now.t.now p.now.points.now }
     requires known { m < length p.now.t.now.methods }
     ensures grows { Grows u.old u.new }
     ensures made { OnOk result (AddsFunctions u.old u.new functions.old.items functions.new.items (functions_of (package_of p.now.t.now) m (slice_get (package_of p.now.t.now).methods m))) }
@@ -160,7 +160,7 @@ fn add_method(
 }
 
 fn add_methods(p: &Source, u: &mut Unit, functions: &mut Vec<CItem>) -> Result<(), NoMemory>
-    requires { IsReady p.now.t.now p.now.points.now.numbers }
+    requires { IsReady p.now.t.now p.now.points.now }
     ensures grows { Grows u.old u.new }
     ensures made { OnOk result (AddsFunctions u.old u.new functions.old.items functions.new.items (method_functions (package_of p.now.t.now) (package_of p.now.t.now).order)) }
 {
@@ -174,7 +174,7 @@ fn add_methods(p: &Source, u: &mut Unit, functions: &mut Vec<CItem>) -> Result<(
 
 /// All functions, in the order of the text.
 fn all_functions(p: &Source, u: &mut Unit) -> Result<Vec<CItem>, NoMemory>
-    requires { IsReady p.now.t.now p.now.points.now.numbers }
+    requires { IsReady p.now.t.now p.now.points.now }
     ensures grows { Grows u.old u.new }
     ensures made { IfOk result (λ functions. HasFunctionTrees u.new functions.items (all_functions_of (package_of p.now.t.now))) }
 {
@@ -193,17 +193,17 @@ fn add_buffer(p: &Source, u: &mut Unit) -> Result<(), NoMemory>
 }
 
 fn add_struct(p: &Source, u: &mut Unit, s: u32) -> Result<(), NoMemory>
-    requires ready { IsReady p.now.t.now p.now.points.now.numbers }
+    requires ready { IsReady p.now.t.now p.now.points.now }
     requires known { s < length p.now.t.now.structs }
     ensures { OnOk result (GrowsBy (struct_items (package_of p.now.t.now) (s ∷ [])) u.old u.new) }
 {
     u.is_sound();
-    let item = struct_item(p.alloc, p.t, u, StructId(s))?;
+    let item = struct_item(p.alloc, p.t, p.points, u, StructId(s))?;
     put_item(u, item)
 }
 
 fn add_structs(p: &Source, u: &mut Unit) -> Result<(), NoMemory>
-    requires { IsReady p.now.t.now p.now.points.now.numbers }
+    requires { IsReady p.now.t.now p.now.points.now }
     ensures { OnOk result (GrowsBy (struct_items (package_of p.now.t.now) (package_of p.now.t.now).struct_order) u.old u.new) }
 {
     let order = p.t.struct_order();
@@ -226,7 +226,7 @@ fn put_text(u: &mut Unit, name: CNameId, bytes: &[u8]) -> Result<(), NoMemory>
 
 /// A status, where a function reads it.
 fn add_text(p: &Source, u: &mut Unit, n: u32, read: &ReadNames) -> Result<(), NoMemory>
-    requires ready { IsReady p.now.t.now p.now.points.now.numbers }
+    requires ready { IsReady p.now.t.now p.now.points.now }
     requires known { n < length p.now.t.now.statuses }
     ensures { OnOk result ((functions : List ItemTree) → AreRead functions u.old.names read.now → (text : List ℕ) → slice_get p.now.t.now.statuses n ≡ Some text → GrowsBy (used_texts functions n (text ∷ [])) u.old u.new) }
 {
@@ -240,7 +240,7 @@ fn add_text(p: &Source, u: &mut Unit, n: u32, read: &ReadNames) -> Result<(), No
 }
 
 fn add_texts(p: &Source, u: &mut Unit, read: &ReadNames) -> Result<(), NoMemory>
-    requires { IsReady p.now.t.now p.now.points.now.numbers }
+    requires { IsReady p.now.t.now p.now.points.now }
     ensures { OnOk result ((functions : List ItemTree) → AreRead functions u.old.names read.now → GrowsBy (used_texts functions 0 p.now.t.now.statuses) u.old u.new) }
 {
     for n in 0..p.t.statuses() {
@@ -297,7 +297,7 @@ fn add_functions(u: &mut Unit, functions: Vec<CItem>) -> Result<(), NoMemory>
 
 /// The items before the functions, where these read these names.
 fn add_before(p: &Source, u: &mut Unit, read: &ReadNames) -> Result<(), NoMemory>
-    requires { IsReady p.now.t.now p.now.points.now.numbers }
+    requires { IsReady p.now.t.now p.now.points.now }
     ensures { OnOk result ((functions : List ItemTree) → AreRead functions u.old.names read.now → GrowsBy (items_before (package_of p.now.t.now) functions) u.old u.new) }
 {
     add_buffer(p, u)?;
@@ -308,7 +308,7 @@ fn add_before(p: &Source, u: &mut Unit, read: &ReadNames) -> Result<(), NoMemory
 
 /// The items of the text.
 fn add_items(p: &Source, u: &mut Unit) -> Result<(), NoMemory>
-    requires { IsReady p.now.t.now p.now.points.now.numbers }
+    requires { IsReady p.now.t.now p.now.points.now }
     ensures { OnOk result (GrowsBy (lowered_unit (package_of p.now.t.now)) u.old u.new) }
 {
     u.is_sound();

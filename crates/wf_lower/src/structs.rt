@@ -18,20 +18,21 @@ ghost use Rattle.c_text.specs.CTree as c;
 ghost use Rattle.wf_exprs.specs.Grown.{Grows};
 ghost use Rattle.wf_exprs.specs.Names.{point_field as point_name, struct_type as type_name};
 ghost use Rattle.wf_exprs.specs.Scopes.{is_named};
+ghost use Rattle.wf_points.specs.PointNumbers.{locals_kept, saved_locals};
 ghost use Rattle.wf_lower_stmts.specs.BodyNodes.{HasWords, is_spelt_method};
 ghost use Rattle.wf_lower.specs.Made.{AddsFields, HasFieldTree, HasFieldTrees, HasItemTree, IsPlain};
-ghost use Rattle.wf_lower.specs.Structs.{buffer_fields as buffer_fields_of, kept_of, method_fields, started_of, typed_field as typed_field_of};
+ghost use Rattle.wf_lower.specs.Structs.{buffer_fields as buffer_fields_of, kept_field, kept_of, method_fields, started_of, typed_field as typed_field_of};
 ghost use Rattle.wf_lower.specs.Unit.{field as field_of, io_buffer_item, kept_fields, kept_type as kept_type_of, methods_fields, source_field as source_field_of, source_fields, struct_fields as struct_fields_of};
 
 use c_text::{CField, CFieldType, CItem, CList, CNameId, CType, CUint, Unit};
 use std::alloc::Global;
-use wf_ast::{Block, Method, StructId, Ty, Typed, Var};
+use wf_ast::{Block, LocalId, Method, StructId, Ty, Typed, Var};
 use wf_base::Mark;
 use wf_exprs::names::{put_name, put_spelt};
 use wf_exprs::nodes::{literal, uint_of};
-use wf_lower_stmts::keeping::is_kept;
 use wf_lower_stmts::spelling::{point_field, saved_field, struct_type};
 use wf_lower_stmts::walks::{keeps_count, keeps_held};
+use wf_points::table::Points;
 use wf_text::{MethodId, NoMemory};
 
 /// A field that holds one value.
@@ -212,7 +213,7 @@ fn kept_type(ty: Ty) -> CType
     }
 }
 
-/// Adds the field that keeps a local of a coroutine, where there is one.
+/// Adds the field that keeps a local of a coroutine.
 fn add_kept(
     t: &Typed,
     u: &mut Unit,
@@ -223,31 +224,37 @@ fn add_kept(
     requires method { list_all is_word_byte method.now ≡ true }
     requires named { is_named t.now x ≡ true }
     ensures grows { Grows u.old u.new }
-    ensures made { OnOk result (AddsFields u.old u.new fields.old fields.new (kept_fields method.now (variable_of t.now x ∷ []))) }
+    ensures made { OnOk result (AddsFields u.old u.new fields.old fields.new (kept_field method.now (variable_of t.now x) ∷ [])) }
 {
-    if is_kept(x.ty) {
-        let name = saved_field(u, method, t.text(x.name))?;
-        add_named(u, kept_type(x.ty), name, fields)
-    } else {
-        Ok(())
-    }
+    let name = saved_field(u, method, t.text(x.name))?;
+    add_named(u, kept_type(x.ty), name, fields)
 }
 
-/// Adds the fields that keep a coroutine's locals.
+/// The local with this number.
+fn local_at(locals: &[Var], x: LocalId) -> Var
+    requires { x.0 < length locals.now }
+    ensures { slice_get locals.now x.0 ≡ Some result }
+{
+    locals[x.0 as usize]
+}
+
+/// Adds the fields that keep a coroutine's locals: `saved` are those that it keeps.
 fn add_all_kept(
     t: &Typed,
     u: &mut Unit,
     method: &[u8],
     locals: &[Var],
+    saved: &[LocalId],
     fields: &mut CList<CField>,
 ) -> Result<(), NoMemory>
     requires method { list_all is_word_byte method.now ≡ true }
     requires named { list_all (is_named t.now) locals.now ≡ true }
+    requires saved { saved.now ≡ locals_kept 0 (map (variable_of t.now) locals.now) }
     ensures grows { Grows u.old u.new }
     ensures made { OnOk result (AddsFields u.old u.new fields.old fields.new (kept_fields method.now (map (variable_of t.now) locals.now))) }
 {
-    for i in 0..locals.len() {
-        add_kept(t, u, method, locals[i], fields)?;
+    for i in 0..saved.len() {
+        add_kept(t, u, method, local_at(locals, saved[i]), fields)?;
     }
     Ok(())
 }
@@ -303,23 +310,25 @@ fn add_point(u: &mut Unit, method: &[u8], fields: &mut CList<CField>) -> Result<
     add_named(u, CType::Uint(CUint::U16), name, fields)
 }
 
-/// Adds what a coroutine keeps.
+/// Adds what a coroutine keeps, which is of its locals `saved`.
 fn add_coroutine(
     t: &Typed,
     u: &mut Unit,
     m: &Method,
     body: &Block,
+    saved: &[LocalId],
     fields: &mut CList<CField>,
 ) -> Result<(), NoMemory>
     requires typed { IsTyped t.now }
     requires spelt { is_spelt_method t.now m.now ≡ true }
     requires body { IsTrue (block_below (length t.now.stmts) body.now) }
+    requires saved { saved.now ≡ saved_locals (method_of t.now m.now body.now) }
     ensures grows { Grows u.old u.new }
     ensures made { OnOk result (AddsFields u.old u.new fields.old fields.new (kept_of (method_of t.now m.now body.now))) }
 {
     let name = t.text(m.name);
     add_point(u, name, fields)?;
-    add_all_kept(t, u, name, m.locals.as_slice(), fields)?;
+    add_all_kept(t, u, name, m.locals.as_slice(), saved, fields)?;
     add_started(t, u, name, body, fields)
 }
 
@@ -339,6 +348,7 @@ fn keeps_in(m: &Method, s: StructId) -> bool
 /// Adds what a method keeps in the struct `s`: nothing where it isn't a coroutine of that struct.
 fn add_method(
     t: &Typed,
+    points: &Points,
     u: &mut Unit,
     s: StructId,
     m: MethodId,
@@ -346,13 +356,14 @@ fn add_method(
 ) -> Result<(), NoMemory>
     requires typed { IsTyped t.now }
     requires words { HasWords t.now }
+    requires saved { points.now.saved ≡ map saved_locals (package_of t.now).methods }
     requires known { m.0 < length t.now.methods }
     ensures grows { Grows u.old u.new }
     ensures made { OnOk result ((method : MethodTree) → slice_get (package_of t.now).methods m.0 ≡ Some method → AddsFields u.old u.new fields.old fields.new (method_fields s.0 method)) }
 {
     let method = t.method(m);
     if keeps_in(method, s) {
-        add_coroutine(t, u, method, t.body(m), fields)
+        add_coroutine(t, u, method, t.body(m), points.saved(m), fields)
     } else {
         Ok(())
     }
@@ -361,17 +372,19 @@ fn add_method(
 /// Adds what the coroutines of a struct keep.
 fn add_methods(
     t: &Typed,
+    points: &Points,
     u: &mut Unit,
     s: StructId,
     fields: &mut CList<CField>,
 ) -> Result<(), NoMemory>
     requires typed { IsTyped t.now }
     requires words { HasWords t.now }
+    requires saved { points.now.saved ≡ map saved_locals (package_of t.now).methods }
     ensures grows { Grows u.old u.new }
     ensures made { OnOk result (AddsFields u.old u.new fields.old fields.new (methods_fields s.0 (package_of t.now).methods)) }
 {
     for n in 0..t.methods() {
-        add_method(t, u, s, MethodId(n), fields)?;
+        add_method(t, points, u, s, MethodId(n), fields)?;
     }
     Ok(())
 }
@@ -390,11 +403,13 @@ fn add_life(u: &mut Unit, fields: &mut CList<CField>) -> Result<(), NoMemory>
 fn struct_fields(
     alloc: Global,
     t: &Typed,
+    points: &Points,
     u: &mut Unit,
     s: StructId,
 ) -> Result<CList<CField>, NoMemory>
     requires typed { IsTyped t.now }
     requires words { HasWords t.now }
+    requires saved { points.now.saved ≡ map saved_locals (package_of t.now).methods }
     requires known { s.0 < length t.now.structs }
     ensures grows { Grows u.old u.new }
     ensures made { IfOk result (λ list. HasFieldTrees u.new list (struct_fields_of (package_of t.now) s.0)) }
@@ -402,7 +417,7 @@ fn struct_fields(
     let mut fields = CList::new(alloc);
     add_life(u, &mut fields)?;
     add_all_source(t, u, t.structure(s).fields.as_slice(), &mut fields)?;
-    add_methods(t, u, s, &mut fields)?;
+    add_methods(t, points, u, s, &mut fields)?;
     Ok(fields)
 }
 
@@ -410,16 +425,18 @@ fn struct_fields(
 pub(crate) fn struct_item(
     alloc: Global,
     t: &Typed,
+    points: &Points,
     u: &mut Unit,
     s: StructId,
 ) -> Result<CItem, NoMemory>
     requires typed { IsTyped t.now }
     requires words { HasWords t.now }
+    requires saved { points.now.saved ≡ map saved_locals (package_of t.now).methods }
     requires known { s.0 < length t.now.structs }
     ensures grows { Grows u.old u.new }
     ensures made { IfOk result (λ it. HasItemTree u.new it (c.struct_item (struct_fields_of (package_of t.now) s.0) (type_name (package_of t.now) s.0))) }
 {
-    let fields = struct_fields(alloc, t, u, s)?;
+    let fields = struct_fields(alloc, t, points, u, s)?;
     let name = struct_type(t, u, s)?;
     Ok(CItem::Struct { fields, name })
 }

@@ -1,16 +1,18 @@
 -- What lowering knows of a method is what its package says of it.
-use Rattle.std.proofs.Common.{◌≡◌, ◌∙◌, ap, sym, refl, ℕ, zero, suc, true, List, [], ◌∷◌, Some, length, map, nat_lt}
-use Rattle.std.specs.Prelude.{slice_get}
-use Rattle.std.proofs.lemmas.Option.{slice_get-map}
+use Rattle.std.proofs.Common.{◌≡◌, ◌<◌, ◌∙◌, ap, sym, refl, ℕ, zero, suc, true, List, [], ◌∷◌, Some, length, map, nat_lt}
+use Rattle.std.specs.Prelude.{slice_get, option_map}
+use Rattle.std.proofs.lemmas.Option.{same_Some, slice_get-map, slice_get_within}
 use Rattle.wf_ast.specs.declared.declarations.Method.{Method}
 use Rattle.wf_ast.specs.declared.declarations.Struct.{Struct}
 use Rattle.wf_ast.specs.declared.declarations.Var.{Var}
 use Rattle.wf_ast.specs.declared.typed_code.Block.{Block}
 use Rattle.wf_ast.specs.declared.typed_nodes.TypedNodes.{TypedNodes}
+use Rattle.wf_ast.specs.declared.variables.LocalId.{LocalId}
 use Rattle.wf_ast.specs.TypedInvariant.{IsTyped, block_below, has_few_variables}
 use Rattle.wf_ast.specs.TypedPackage.{Variable, package_of, struct_of, method_of, methods_of, variable_of}
 use Rattle.wf_ast.specs.TypedTrees.{text_of}
 use Rattle.wf_ast.proofs.Arena.{both_true}
+use Rattle.wf_points.specs.PointNumbers.{saved_locals}
 use Rattle.wf_exprs.specs.Names.{Names, fields_called, names_of}
 use Rattle.wf_exprs.specs.Scopes.{ScopeTree, Scoped, are_named, names_in}
 use Rattle.wf_exprs.proofs.Prefixes.{list_all-at}
@@ -33,6 +35,17 @@ module _ (nodes : TypedNodes) where
   pub form_is : (n : ℕ) (m : Method) (body : Block) → slice_get nodes.methods n ≡ Some m → slice_get nodes.bodies n ≡ Some body → slice_get (package_of nodes).methods n ≡ Some (method_of nodes m body)
   unfolding package_of
   form_is n m body h k = method_at nodes nodes.methods nodes.bodies n m body h k
+
+  -- The table of points has the locals that a method keeps, which are those of its tree.
+  module _ (n : ℕ) (m : Method) (body : Block) (known : slice_get nodes.methods n ≡ Some m) (made : slice_get nodes.bodies n ≡ Some body) (table : List (List LocalId)) (are : table ≡ map saved_locals (package_of nodes).methods) where
+    saved_at : slice_get table n ≡ Some (saved_locals (method_of nodes m body))
+    saved_at = ap (λ l. slice_get l n) are ∙ slice_get-map saved_locals (package_of nodes).methods n ∙ ap (option_map saved_locals) (form_is n m body known made)
+
+    pub saved_known : n < length table
+    saved_known = slice_get_within table n (saved_locals (method_of nodes m body)) saved_at
+
+    pub saved_same : (saved : List LocalId) → slice_get table n ≡ Some saved → saved ≡ saved_locals (method_of nodes m body)
+    saved_same saved h = same_Some saved (saved_locals (method_of nodes m body)) (sym h ∙ saved_at)
 
   pub method_spelt : (n : ℕ) (m : Method) → HasWords nodes → slice_get nodes.methods n ≡ Some m → is_spelt_method nodes m ≡ true
   method_spelt n m words h = list_all-at (is_spelt_method nodes) nodes.methods n m words.method_words h

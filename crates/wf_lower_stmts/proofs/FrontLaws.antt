@@ -8,7 +8,6 @@ use Rattle.wf_exprs.specs.Grown.{HasCode}
 use Rattle.wf_lower_stmts.specs.declared.places.Way.{Way}
 use Rattle.wf_lower_stmts.specs.declared.places.Way.TheVariants as ways
 use Rattle.wf_lower_stmts.specs.BodyNodes.{places_code}
-use Rattle.wf_lower_stmts.specs.Forms.{save_locals, restore_locals}
 
 module _ (names : Names) (picks : ℕ → Bool) (rest : Code) where
   pub places_front : (way : Way) (m k : ℕ) (xs : List Variable) → k < length xs
@@ -18,18 +17,7 @@ module _ (names : Names) (picks : ℕ → Bool) (rest : Code) where
   places_front ways.Get m zero (x ∷ xs) h = refl
   places_front way m (suc k) (x ∷ xs) h = places_front way m k xs (omega (arith, h))
 
-module _ (method : List ℕ) (rest : Code) where
-  pub save_front : (k : ℕ) (xs : List Variable) → k < length xs → save_locals method (drop k xs) rest ≡ save_locals method (take 1 (drop k xs)) (save_locals method (drop (suc k) xs) rest)
-  save_front k [] h = absurd (omega (arith, h))
-  save_front zero (x ∷ xs) h = refl
-  save_front (suc k) (x ∷ xs) h = save_front k xs (omega (arith, h))
-
-  pub restore_front : (k : ℕ) (xs : List Variable) → k < length xs → restore_locals method (drop k xs) rest ≡ restore_locals method (take 1 (drop k xs)) (restore_locals method (drop (suc k) xs) rest)
-  restore_front k [] h = absurd (omega (arith, h))
-  restore_front zero (x ∷ xs) h = refl
-  restore_front (suc k) (x ∷ xs) h = restore_front k xs (omega (arith, h))
-
--- Nothing is left to be done after the end of a list.
+-- One argument more is done.
 module _ (names : Names) (picks : ℕ → Bool) (rest : Code) where
   pub places_step : {a b : Nodes} {code it : ℕ} (way : Way) (xs : List Variable) (left i : ℕ) → suc i ≡ left → left ≤ length xs → HasCode a code (places_code way names picks left (drop left xs) rest)
       → HasCode b it (places_code way names picks i (take 1 (drop i xs)) (code_of a code)) → HasCode b it (places_code way names picks i (drop i xs) rest)
@@ -37,18 +25,3 @@ module _ (names : Names) (picks : ℕ → Bool) (rest : Code) where
       let P : ℕ → Type 0 = λ n. HasCode a code (places_code way names picks n (drop n xs) rest) in
       let next = subst P (sym e) so in
       record { there = one.there; is = one.is ∙ ap (places_code way names picks i (take 1 (drop i xs))) next.is ∙ sym (places_front names picks rest way i i xs (omega (arith, e, h))) }
-
-module _ (method : List ℕ) (rest : Code) where
-  pub save_step : {a b : Nodes} {code it : ℕ} (xs : List Variable) (left i : ℕ) → suc i ≡ left → left ≤ length xs → HasCode a code (save_locals method (drop left xs) rest)
-      → HasCode b it (save_locals method (take 1 (drop i xs)) (code_of a code)) → HasCode b it (save_locals method (drop i xs) rest)
-  save_step {a = a} {code = code} xs left i e h so one =
-      let P : ℕ → Type 0 = λ n. HasCode a code (save_locals method (drop n xs) rest) in
-      let next = subst P (sym e) so in
-      record { there = one.there; is = one.is ∙ ap (save_locals method (take 1 (drop i xs))) next.is ∙ sym (save_front method rest i xs (omega (arith, e, h))) }
-
-  pub restore_step : {a b : Nodes} {code it : ℕ} (xs : List Variable) (left i : ℕ) → suc i ≡ left → left ≤ length xs → HasCode a code (restore_locals method (drop left xs) rest)
-      → HasCode b it (restore_locals method (take 1 (drop i xs)) (code_of a code)) → HasCode b it (restore_locals method (drop i xs) rest)
-  restore_step {a = a} {code = code} xs left i e h so one =
-      let P : ℕ → Type 0 = λ n. HasCode a code (restore_locals method (drop n xs) rest) in
-      let next = subst P (sym e) so in
-      record { there = one.there; is = one.is ∙ ap (restore_locals method (take 1 (drop i xs))) next.is ∙ sym (restore_front method rest i xs (omega (arith, e, h))) }

@@ -6,7 +6,6 @@ use Rattle.wf_ast.specs.declared.declarations.Var.{Var}
 use Rattle.wf_ast.specs.declared.types.Ty.{Ty}
 use Rattle.wf_ast.specs.declared.typed_nodes.TypedNodes.{TypedNodes}
 use Rattle.wf_ast.specs.TypedPackage.{variable_of}
-use Rattle.wf_ast.specs.TypedTrees.{text_of}
 use Rattle.wf_text.specs.declared.faults.NoMemory.{NoMemory}
 use Rattle.c_text.specs.declared.ids.CStmtId.{CStmtId}
 use Rattle.c_text.specs.CNodes.{Nodes, code_of}
@@ -15,8 +14,8 @@ use Rattle.wf_exprs.specs.Grown.{HasCode}
 use Rattle.wf_exprs.specs.Names.{Names}
 use Rattle.wf_lower_stmts.specs.declared.places.Way.{Way}
 use Rattle.wf_lower_stmts.specs.declared.places.Way.TheVariants as ways
-use Rattle.wf_lower_stmts.specs.BodyNodes.{save_one, restore_one, one_place, places_code}
-use Rattle.wf_lower_stmts.specs.Forms.{save_locals, restore_locals, is_io, is_kept}
+use Rattle.wf_lower_stmts.specs.BodyNodes.{one_place, places_code}
+use Rattle.wf_lower_stmts.specs.Forms.{is_io}
 
 -- The same code in other words.
 pub retell_code : (nodes : Nodes) (x y : Code) (r : Result CStmtId NoMemory) → x ≡ y → IfOk r (λ it. HasCode nodes it.0 x) → IfOk r (λ it. HasCode nodes it.0 y)
@@ -42,34 +41,3 @@ module _ (nodes : TypedNodes) (names : Names) (picks : ℕ → Bool) (rest : Cod
   pub place_done : (way : Way) (k : ℕ) (xs : List Var) (ty : Ty) (c : Bool) → option_map (λ x. x.ty) (slice_get xs k) ≡ Some ty → (is_io ty && picks n) ≡ c
       → places_code way names picks n (take 1 (drop k (map (variable_of nodes) xs))) rest ≡ (if c then one_place way names n ty rest else rest)
   place_done way k xs ty c h same = place_here way k xs ty h ∙ choose_both (is_io ty) (picks n) c (one_place way names n ty rest) rest same
-
-module _ (nodes : TypedNodes) (method : List ℕ) (rest : Code) where
-  pub saved_here : (k : ℕ) (xs : List Var) (ty : Ty) (name : List ℕ) → option_map (λ x. x.ty) (slice_get xs k) ≡ Some ty → option_map (λ x. text_of nodes x.name) (slice_get xs k) ≡ Some name → is_kept ty ≡ true
-      → save_locals method (take 1 (drop k (map (variable_of nodes) xs))) rest ≡ save_one method name rest
-  saved_here k [] ty name h is kept = absurd (cc h)
-  saved_here zero (x ∷ xs) ty name h is kept =
-      let t = same_Some x.ty ty h in
-      let e = same_Some (text_of nodes x.name) name is in
-      ap (λ b. if b then save_one method (text_of nodes x.name) rest else rest) (ap is_kept t ∙ kept) ∙ ap (λ l. save_one method l rest) e
-  saved_here (suc k) (x ∷ xs) ty name h is kept = saved_here k xs ty name h is kept
-
-  pub unsaved_here : (k : ℕ) (xs : List Var) (ty : Ty) → option_map (λ x. x.ty) (slice_get xs k) ≡ Some ty → is_kept ty ≡ false
-      → save_locals method (take 1 (drop k (map (variable_of nodes) xs))) rest ≡ rest
-  unsaved_here k [] ty h kept = absurd (cc h)
-  unsaved_here zero (x ∷ xs) ty h kept = ap (λ b. if b then save_one method (text_of nodes x.name) rest else rest) (ap is_kept (same_Some x.ty ty h) ∙ kept)
-  unsaved_here (suc k) (x ∷ xs) ty h kept = unsaved_here k xs ty h kept
-
-  pub restored_here : (k : ℕ) (xs : List Var) (ty : Ty) (name : List ℕ) → option_map (λ x. x.ty) (slice_get xs k) ≡ Some ty → option_map (λ x. text_of nodes x.name) (slice_get xs k) ≡ Some name → is_kept ty ≡ true
-      → restore_locals method (take 1 (drop k (map (variable_of nodes) xs))) rest ≡ restore_one method name rest
-  restored_here k [] ty name h is kept = absurd (cc h)
-  restored_here zero (x ∷ xs) ty name h is kept =
-      let t = same_Some x.ty ty h in
-      let e = same_Some (text_of nodes x.name) name is in
-      ap (λ b. if b then restore_one method (text_of nodes x.name) rest else rest) (ap is_kept t ∙ kept) ∙ ap (λ l. restore_one method l rest) e
-  restored_here (suc k) (x ∷ xs) ty name h is kept = restored_here k xs ty name h is kept
-
-  pub unrestored_here : (k : ℕ) (xs : List Var) (ty : Ty) → option_map (λ x. x.ty) (slice_get xs k) ≡ Some ty → is_kept ty ≡ false
-      → restore_locals method (take 1 (drop k (map (variable_of nodes) xs))) rest ≡ rest
-  unrestored_here k [] ty h kept = absurd (cc h)
-  unrestored_here zero (x ∷ xs) ty h kept = ap (λ b. if b then restore_one method (text_of nodes x.name) rest else rest) (ap is_kept (same_Some x.ty ty h) ∙ kept)
-  unrestored_here (suc k) (x ∷ xs) ty h kept = unrestored_here k xs ty h kept

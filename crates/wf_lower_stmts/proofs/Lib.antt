@@ -4,6 +4,7 @@ pub mod FrontLaws
 pub mod HereLaws
 pub mod PlaceLaws
 pub mod PointerLaws
+pub mod SavedLaws
 pub mod StandLaws
 pub mod StayLaws
 pub mod TargetLaws

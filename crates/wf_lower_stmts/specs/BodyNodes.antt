@@ -17,17 +17,18 @@ use Rattle.wf_base.specs.declared.base_methods.BaseSig.TheVariants as sigs
 use Rattle.wf_base.specs.declared.base_methods.ReadForm.TheVariants.{ReadU8}
 use Rattle.wf_ast.specs.declared.typed_nodes.TypedNodes.{TypedNodes}
 use Rattle.wf_ast.specs.declared.types.Ty.{Ty}
+use Rattle.wf_ast.specs.declared.variables.LocalId.{LocalId}
 use Rattle.wf_ast.specs.TypedInvariant.{IsTyped, is_expr, has_few_variables}
 use Rattle.wf_ast.specs.TypedPackage.{Variable, package_of, method_of}
 use Rattle.wf_ast.specs.TypedTree.{ValueTree, Simple, break_from, continue_in, give_back, Site, Block, end, plain, choose, loop, Target, to_element, to_flag, to_slice, to_nothing}
 use Rattle.wf_ast.specs.TypedTrees.{no_place, block_of, text_of, tree_of, onto, stmt_makers}
 use Rattle.wf_ast.specs.WellTyped.{io_handed, is_that}
 use Rattle.wf_ast.specs.NodeKinds.{is_number_at, is_slice_at, node_number, node_slice}
-use Rattle.wf_points.specs.PointNumbers.{number_at}
+use Rattle.wf_points.specs.PointNumbers.{number_at, saved_locals}
 use Rattle.c_text.specs.CSpelling.{is_word_byte}
 use Rattle.c_text.specs.CTree.{Code, variable, assign}
 use Rattle.wf_exprs.specs.Exprs.{Pair, io_code, place_code, end_code}
-use Rattle.wf_exprs.specs.Names.{Names, local_pointer, local_length, saved_field, names_of, struct_called, struct_type}
+use Rattle.wf_exprs.specs.Names.{Names, named, local_pointer, local_length, saved_field, names_of, struct_called, struct_type}
 use Rattle.wf_exprs.specs.Words.{of_self}
 use Rattle.wf_exprs.specs.Scopes.{ScopeTree, are_named, path_of}
 use Rattle.wf_lower_stmts.specs.Forms.{Form, form_of, stays, holds_something, counts_bytes, awaits, keeps, size_local, place_in, end_of, put, get}
@@ -78,12 +79,13 @@ pub record HasWords (nodes : TypedNodes) : Type 0 where
 abbrev pub AreSmall : List (Option ℕ) → Type 0
 AreSmall numbers = (s : ℕ) → point_at numbers s < 2 ^ 31
 
--- The names, the method and its body belong to one package.
-pub record IsBody (scope : ScopeTree) (nodes : TypedNodes) (numbers : List (Option ℕ)) (m : Method) (body : typed_code.Block) (held counted returned : Bool) : Type 0 where
+-- The names, the method, its body and the locals that it keeps belong to one package.
+pub record IsBody (scope : ScopeTree) (nodes : TypedNodes) (numbers : List (Option ℕ)) (m : Method) (body : typed_code.Block) (saved : List LocalId) (held counted returned : Bool) : Type 0 where
   pub typed : IsTyped nodes
   pub words : HasWords nodes
   pub same_nodes : scope.nodes ≡ nodes
   pub same_names : scope.names ≡ names_of (package_of nodes) (method_of nodes m body)
+  pub saved_same : saved ≡ saved_locals (method_of nodes m body)
   pub held_same : held ≡ keeps holds_something (block_of nodes body)
   pub counted_same : counted ≡ keeps counts_bytes (block_of nodes body)
   pub returned_same : returned ≡ returns (block_of nodes body)
@@ -207,6 +209,11 @@ save_one method name rest = assign (of_self (saved_field method name)) (variable
 
 abbrev pub restore_one : (method name : List ℕ) → (rest : Code) → Code
 restore_one method name rest = assign (variable (codes "v_" ++ name)) (of_self (saved_field method name)) rest
+
+-- What is done for the locals with these numbers, in order: `one` does it for a local by its name.
+abbrev pub for_locals : (one : List ℕ → Code → Code) → (names : List (List ℕ)) → List LocalId → (rest : Code) → Code
+for_locals one names [] rest = rest
+for_locals one names (n ∷ ns) rest = one (named names n.0) (for_locals one names ns rest)
 
 -- A target of the code as one of the tree. Its place and its type tell nothing of what is written.
 abbrev pub target_in : TypedNodes → TargetNode → Target

@@ -1,10 +1,11 @@
-// The body of a method that is lowered: the method, its names, and its points.
+// The body of a method that is lowered: the method, its names, its points, and the locals that it keeps at one.
 
-ghost use Rattle.std.specs.Prelude.{◌≡◌, ◌<◌, ◌≤◌, ◌^◌, true, length, slice_get, Some};
+ghost use Rattle.std.specs.Prelude.{◌≡◌, ◌<◌, ◌≤◌, ◌^◌, true, length, map, slice_get, Some};
 ghost use Rattle.std.specs.List.{list_all};
 ghost use Rattle.wf_ast.specs.TypedInvariant.{IsTyped};
 ghost use Rattle.wf_ast.specs.TypedPackage.{package_of};
 ghost use Rattle.wf_ast.specs.WellTyped.{is_coroutine as is_marked_coroutine};
+ghost use Rattle.wf_points.specs.PointNumbers.{saved_locals};
 ghost use Rattle.c_text.specs.CSpelling.{is_word_byte};
 ghost use Rattle.wf_exprs.specs.Scopes.{are_named};
 ghost use Rattle.wf_lower_stmts.specs.BodyNodes.{AreSmall, HasWords, form_in, is_spelt_method, point_at};
@@ -14,7 +15,7 @@ ghost use Rattle.wf_lower_stmts.specs.Lower.{returns as returns_in};
 use crate::walks::{keeps_count, keeps_held, returns};
 use std::alloc::Global;
 use std::marker::Model;
-use wf_ast::{Block, Method, StmtId, Typed, Var};
+use wf_ast::{Block, LocalId, Method, StmtId, Typed, Var};
 use wf_base::Mark;
 use wf_exprs::BodyNames;
 use wf_points::table::Points;
@@ -28,6 +29,7 @@ pub struct Body<'a> {
     points: &'a Points,
     method: &'a Method,
     body: &'a Block,
+    saved: &'a [LocalId],
     keeps_held: bool,
     keeps_count: bool,
     returns: bool,
@@ -40,7 +42,7 @@ impl<'a> Model for Body<'a> {
 
     ghost view = { λ b. record { nodes = b.t.now; method = b.method.now; body = b.body.now; numbers = b.points.now.numbers } };
 
-    ghost invariant = { λ b. IsBody b.scope b.t.now b.points.now.numbers b.method.now b.body.now b.keeps_held b.keeps_count b.returns };
+    ghost invariant = { λ b. IsBody b.scope b.t.now b.points.now.numbers b.method.now b.body.now b.saved.now b.keeps_held b.keeps_count b.returns };
 }
 
 impl<'a> Body<'a> {
@@ -50,6 +52,7 @@ impl<'a> Body<'a> {
         requires known { m.0 < length t.now.methods }
         requires words { HasWords t.now }
         requires small { AreSmall points.now.numbers }
+        requires saved { points.now.saved ≡ map saved_locals (package_of t.now).methods }
         ensures nodes { result.nodes ≡ t.now }
         ensures numbers { result.numbers ≡ points.now.numbers }
         ensures form { slice_get (package_of t.now).methods m.0 ≡ Some (form_in result).method }
@@ -69,6 +72,7 @@ impl<'a> Body<'a> {
             points,
             method,
             body,
+            saved: points.saved(m),
             keeps_held: keeps_held(t, body),
             keeps_count: keeps_count(t, body),
             returns: returns(t, body),
@@ -133,6 +137,13 @@ impl<'a> Body<'a> {
         ensures few { length result.now ≤ 256 }
     {
         self.method.locals.as_slice()
+    }
+
+    /// The locals that the method keeps at a suspension, in order.
+    pub(crate) fn saved(&self) -> &[LocalId]
+        ensures { result.now ≡ saved_locals (form_in self.now).method }
+    {
+        self.saved
     }
 
     /// The source's name of the method.

@@ -1,7 +1,7 @@
 // The end of a call: the places go back to the buffers, and the function returns. At a suspension a coroutine first keeps its
 // locals but slices, what a started statement has, and the number of the point.
 
-ghost use Rattle.std.specs.Prelude.{◌≡◌, ◌<◌, true, drop, length, option_map, slice_get, take, Some, IfOk, IfSome};
+ghost use Rattle.std.specs.Prelude.{◌≡◌, ◌<◌, true, length, option_map, slice_get, Some, IfOk, IfSome};
 ghost use Rattle.std.specs.List.{list_all};
 ghost use Rattle.wf_ast.specs.TypedTrees.{text_of};
 ghost use Rattle.c_text.specs.CSpelling.{is_word_byte};
@@ -12,31 +12,20 @@ ghost use Rattle.wf_exprs.specs.Grown.{Grows, HasCode, HasExpr};
 ghost use Rattle.wf_exprs.specs.Names.{count_field as count_name, held_field as held_name, point_field as point_name, saved_field as saved_name};
 ghost use Rattle.wf_exprs.specs.Words.{num, of_self};
 ghost use Rattle.wf_lower_stmts.specs.BodyNodes.{form_in, save_one, restore_one};
-ghost use Rattle.wf_lower_stmts.specs.Forms.{give as give_code, is_kept as is_kept_type, restore_count as restore_count_code, restore_held as restore_held_code, restore_locals as restore_locals_code, restore_started as restore_started_code, save_count as save_count_code, save_held as save_held_code, save_locals as save_locals_code, save_started as save_started_code, suspend as suspend_code};
+ghost use Rattle.wf_lower_stmts.specs.Forms.{give as give_code, restore_count as restore_count_code, restore_held as restore_held_code, restore_locals as restore_locals_code, restore_started as restore_started_code, save_count as save_count_code, save_held as save_held_code, save_locals as save_locals_code, save_started as save_started_code, suspend as suspend_code};
 
 use crate::body::Body;
 use crate::code::{assign, finish, leave};
 use crate::places::{Picked, put_places};
 use crate::spelling::{count_field, held_field, point_field, saved_field};
 use c_text::{CExprId, CStmtId, Unit};
-use wf_ast::Ty;
+use wf_ast::LocalId;
 use wf_exprs::nodes::{member_of_self, number, spelt_variable, variable};
 use wf_exprs_nodes::statuses::status_constant;
 use wf_text::NoMemory;
 
-/// Whether a local of this type is kept.
-pub fn is_kept(ty: Ty) -> bool
-    ensures { result ≡ is_kept_type ty }
-{
-    match ty {
-        Ty::Slice(_) => false,
-        Ty::Num { .. } | Ty::Flag | Ty::Status => true,
-        Ty::Reader | Ty::Writer | Ty::Array { .. } | Ty::Part(_) => true,
-    }
-}
-
 /// The field that keeps the local with this name.
-fn saved(b: &Body, u: &mut Unit, name: &[u8]) -> Result<CExprId, NoMemory>
+fn saved_there(b: &Body, u: &mut Unit, name: &[u8]) -> Result<CExprId, NoMemory>
     requires { list_all is_word_byte name.now ≡ true }
     ensures grows { Grows u.old u.new }
     ensures made { IfOk result (λ it. HasExpr u.new it.0 (of_self (saved_name (form_in b.now).method.name name.now))) }
@@ -52,7 +41,7 @@ fn save_local(b: &Body, u: &mut Unit, name: &[u8], rest: CStmtId) -> Result<CStm
     ensures made { IfOk result (λ it. HasCode u.new it.0 (save_one (form_in b.now).method.name name.now (code_of u.old rest.0))) }
 {
     let local = spelt_variable(u, b"v_", name)?;
-    let field = saved(b, u, name)?;
+    let field = saved_there(b, u, name)?;
     assign(u, field, local, rest)
 }
 
@@ -62,82 +51,48 @@ fn restore_local(b: &Body, u: &mut Unit, name: &[u8], rest: CStmtId) -> Result<C
     ensures grows { Grows u.old u.new }
     ensures made { IfOk result (λ it. HasCode u.new it.0 (restore_one (form_in b.now).method.name name.now (code_of u.old rest.0))) }
 {
-    let field = saved(b, u, name)?;
+    let field = saved_there(b, u, name)?;
     let local = spelt_variable(u, b"v_", name)?;
     assign(u, local, field, rest)
 }
 
 /// The source's name of the local with this number.
-fn local_name<'a>(b: &'a Body, n: usize) -> &'a [u8]
-    requires { n < length b.now.method.locals }
-    ensures is { option_map (λ x. text_of b.now.nodes x.name) (slice_get b.now.method.locals n) ≡ Some result.now }
+fn local_name<'a>(b: &'a Body, x: LocalId) -> &'a [u8]
+    requires { x.0 < length b.now.method.locals }
+    ensures is { option_map (λ it. text_of b.now.nodes it.name) (slice_get b.now.method.locals x.0) ≡ Some result.now }
     ensures word { list_all is_word_byte result.now ≡ true }
 {
-    b.typed().text(b.locals()[n].name)
+    b.typed().text(b.locals()[x.0 as usize].name)
 }
 
-/// The type of the local with this number.
-fn local_type(b: &Body, n: usize) -> Ty
-    requires { n < length b.now.method.locals }
-    ensures { option_map (λ x. x.ty) (slice_get b.now.method.locals n) ≡ Some result }
-{
-    b.locals()[n].ty
-}
-
-/// The same for the local with this number, where it is kept.
-fn save_at(b: &Body, u: &mut Unit, n: usize, rest: CStmtId) -> Result<CStmtId, NoMemory>
-    requires known { n < length b.now.method.locals }
-    requires rest { rest.0 < length u.old.stmts }
-    ensures grows { Grows u.old u.new }
-    ensures made { IfOk result (λ it. HasCode u.new it.0 (save_locals_code (form_in b.now).method.name (take 1 (drop n (form_in b.now).method.locals)) (code_of u.old rest.0))) }
-{
-    if is_kept(local_type(b, n)) {
-        save_local(b, u, local_name(b, n), rest)
-    } else {
-        Ok(rest)
-    }
-}
-
-/// The locals go to their fields.
+/// The locals that are kept go to their fields.
 fn save_locals(b: &Body, u: &mut Unit, rest: CStmtId) -> Result<CStmtId, NoMemory>
     requires rest { rest.0 < length u.old.stmts }
     ensures grows { Grows u.old u.new }
     ensures made { IfOk result (λ it. HasCode u.new it.0 (save_locals_code (form_in b.now).method.name (form_in b.now).method.locals (code_of u.old rest.0))) }
 {
-    let mut left = b.locals().len();
+    let saved = b.saved();
+    let mut left = saved.len();
     let mut code = rest;
     while left > 0 {
         left -= 1;
-        code = save_at(b, u, left, code)?;
+        code = save_local(b, u, local_name(b, saved[left]), code)?;
     }
     Ok(code)
 }
 
-/// The same for the local with this number, where it is kept.
-fn restore_at(b: &Body, u: &mut Unit, n: usize, rest: CStmtId) -> Result<CStmtId, NoMemory>
-    requires known { n < length b.now.method.locals }
-    requires rest { rest.0 < length u.old.stmts }
-    ensures grows { Grows u.old u.new }
-    ensures made { IfOk result (λ it. HasCode u.new it.0 (restore_locals_code (form_in b.now).method.name (take 1 (drop n (form_in b.now).method.locals)) (code_of u.old rest.0))) }
-{
-    if is_kept(local_type(b, n)) {
-        restore_local(b, u, local_name(b, n), rest)
-    } else {
-        Ok(rest)
-    }
-}
-
-/// The locals come from their fields.
+/// The locals that are kept come from their fields.
 fn restore_locals(b: &Body, u: &mut Unit, rest: CStmtId) -> Result<CStmtId, NoMemory>
     requires rest { rest.0 < length u.old.stmts }
     ensures grows { Grows u.old u.new }
     ensures made { IfOk result (λ it. HasCode u.new it.0 (restore_locals_code (form_in b.now).method.name (form_in b.now).method.locals (code_of u.old rest.0))) }
 {
-    let mut left = b.locals().len();
+    let saved = b.saved();
+    let mut left = saved.len();
     let mut code = rest;
     while left > 0 {
         left -= 1;
-        code = restore_at(b, u, left, code)?;
+        code = restore_local(b, u, local_name(b, saved[left]), code)?;
     }
     Ok(code)
 }

@@ -1,5 +1,5 @@
 // What statements of the source are as statements of C: the definition with the laws of labels, and what stands round every
-// statement: the body's names and points, statements of C, the places of buffers, what a coroutine keeps, and targets.
+// statement: the body's names, points and kept locals, statements of C, the places of buffers, what a coroutine keeps, and targets.
 #![tactic(auto, using(wf_exprs::proofs::Growing::grows_on))]
 
 pub mod body;

@@ -11,5 +11,5 @@ invariant-loop-i l = record {
   grows : Grows l.fn.u l.u;
   added : List FieldTree;
   adds : AddsFields l.fn.u l.u l.fn.fields l.fields added;
-  left : added ++ kept_walk l.method l.t l.i (drop l.i l.locals) ≡ kept_walk l.method l.t 0 l.locals;
+  left : added ++ kept_walk l.method l.t l.locals l.i (drop l.i l.saved) ≡ kept_walk l.method l.t l.locals 0 l.saved;
 }

@@ -1,5 +1,7 @@
-use Rattle.std.proofs.Common.{◌∙◌, ap, refl, sym}
+use Rattle.std.proofs.Common.{◌∙◌, ap, refl, sym, map}
 use Rattle.std.specs.List.{list_all}
+use Rattle.wf_ast.specs.TypedPackage.{variable_of}
+use Rattle.wf_points.specs.PointNumbers.{locals_kept}
 use Rattle.c_text.specs.CSpelling.{is_word_byte}
 use Rattle.wf_exprs.proofs.Growing.{grows_on, unchanged}
 use Rattle.wf_exprs.specs.Scopes.{are_named}
@@ -20,6 +22,9 @@ add_all_kept-requires-clause-method c = ap (list_all is_word_byte) (sym (text_is
 
 pub add_all_kept-requires-clause-named : goal.add_all_kept-requires-clause-named
 add_all_kept-requires-clause-named c = ap (are_named c.args.t.now) c.as_slice.ensures ∙ locals_named c.args.t.now c.args.m.now c.requires.spelt
+
+pub add_all_kept-requires-clause-saved : goal.add_all_kept-requires-clause-saved
+add_all_kept-requires-clause-saved c = c.requires.saved ∙ ap (λ xs. locals_kept 0 (map (variable_of c.args.t.now) xs)) (sym c.as_slice.ensures)
 
 pub add_started-requires-clause-word : goal.add_started-requires-clause-word
 add_started-requires-clause-word c = ap (list_all is_word_byte) (sym (text_is c.args.t.now c.args.m.now.name c.text-name.result.now c.text-name.ensures)) ∙ word_is c.args.t.now c.args.m.now.name (spelt_word c.args.t.now c.args.m.now c.requires.spelt)

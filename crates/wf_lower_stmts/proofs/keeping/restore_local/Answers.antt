@@ -3,7 +3,7 @@ use Rattle.wf_exprs.proofs.Prefixes.{v_name}
 use Rattle.wf_lower_stmts.proofs.keeping.restore_local.Goals as goal
 
 pub returns-clause-grows : goal.returns-clause-grows
-returns-clause-grows c = grows_on (grows_on c.saved.ensures.grows c.spelt_variable.ensures.grows) c.assign.ensures.grows
+returns-clause-grows c = grows_on (grows_on c.saved_there.ensures.grows c.spelt_variable.ensures.grows) c.assign.ensures.grows
 
 pub spelt_variable-requires : goal.spelt_variable-requires
 spelt_variable-requires c = v_name c.args.name.now c.requires.word

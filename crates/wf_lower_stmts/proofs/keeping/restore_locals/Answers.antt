@@ -1,27 +1,27 @@
-use Rattle.std.proofs.Common.{◌-◌, ℕ, arith, drop, length, subst, ◌≡◌}
-use Rattle.std.proofs.lemmas.List.{length-map}
-use Rattle.wf_ast.specs.TypedPackage.{variable_of}
+use Rattle.std.proofs.Common.{◌-◌, ◌≡◌, arith}
 use Rattle.c_text.specs.CNodes.{code_of}
-use Rattle.wf_exprs.specs.Grown.{HasCode}
 use Rattle.wf_exprs.proofs.Growing.{grows_on}
-use Rattle.wf_lower_stmts.specs.BodyNodes.{form_in}
-use Rattle.wf_lower_stmts.specs.Forms.{restore_locals}
-use Rattle.wf_lower_stmts.proofs.FrontLaws.{restore_step}
+use Rattle.wf_lower_stmts.specs.BodyNodes.{form_in, restore_one}
+use Rattle.wf_lower_stmts.proofs.SavedLaws.{all_restored, kept_known, local_step}
 use Rattle.wf_lower_stmts.proofs.keeping.restore_locals.Goals as goal
+
+pub local_name-requires : goal.local_name-requires
+local_name-requires c =
+    let b = c.args.b.now in
+    kept_known b.nodes b.method.locals c.saved-saved.result.now c.saved-saved.ensures (c.loop-left.left - 1) _ (omega (arith, c.loop-left-test.true, c.loop-left.invariant.within))
 
 pub loop-left-preserved : goal.loop-left-preserved
 loop-left-preserved c =
     let b = c.args.b.now in
-    let same = length-map b.method.locals (variable_of b.nodes) in
     record {
       within = omega (arith, c.loop-left.invariant.within);
-      grows = grows_on c.loop-left.invariant.grows c.restore_at.ensures.grows;
-      made = restore_step (form_in b).method.name (code_of c.args.u.now c.args.rest.0) (form_in b).method.locals c.loop-left.left (c.loop-left.left - 1) (omega (arith, c.loop-left-test.true)) (omega (arith, same, c.loop-left.invariant.within)) c.loop-left.invariant.made c.in_ok-code.ensures.made;
+      grows = grows_on c.loop-left.invariant.grows c.restore_local.ensures.grows;
+      made = local_step (restore_one (form_in b).method.name) b.nodes b.method.locals (code_of c.args.u.now c.args.rest.0) c.saved-saved.result.now c.loop-left.left (c.loop-left.left - 1) _ c.local_name.result.now
+          (omega (arith, c.loop-left-test.true)) c.loop-left.invariant.within c.local_name.ensures.is c.loop-left.invariant.made c.in_ok-code.ensures.made;
     }
 
 pub returns-clause-made : goal.returns-clause-made
 returns-clause-made c =
     let b = c.args.b.now in
     let none : c.loop-left.left ≡ 0 = omega (arith, c.loop-left-test.false) in
-    let P : ℕ → Type 0 = λ n. HasCode c.loop-left.u c.loop-left.code.0 (restore_locals (form_in b).method.name (drop n (form_in b).method.locals) (code_of c.args.u.now c.args.rest.0)) in
-    subst P none c.loop-left.invariant.made
+    all_restored (form_in b).method.name (form_in b).method.locals c.saved-saved.result.now c.saved-saved.ensures (code_of c.args.u.now c.args.rest.0) c.loop-left.left none c.loop-left.invariant.made

@@ -1,4 +1,4 @@
-use Rattle.std.proofs.Common.{◌-◌, ℕ, arith, drop, length, subst, ◌≡◌}
+use Rattle.std.proofs.Common.{◌-◌, ℕ, arith, drop, subst, ◌≡◌}
 use Rattle.std.proofs.lemmas.List.{length-map}
 use Rattle.wf_ast.specs.TypedPackage.{variable_of}
 use Rattle.c_text.specs.CNodes.{code_of}

@@ -1,6 +1,6 @@
 use Rattle.std.proofs.Common.{ap}
 use Rattle.wf_exprs.specs.Scopes.{ScopeTree}
-use Rattle.wf_lower_stmts.proofs.BodyLaws.{body_known, form_is, is_scoped, method_few, method_spelt, names_same}
+use Rattle.wf_lower_stmts.proofs.BodyLaws.{body_known, form_is, is_scoped, method_few, method_spelt, names_same, saved_known, saved_same}
 use Rattle.wf_lower_stmts.proofs.WordLaws.{spelt_known}
 use Rattle.wf_lower_stmts.proofs.body.Body.new.Goals as goal
 
@@ -15,6 +15,9 @@ new-requires c =
     let m = c.method-method.result.now in
     is_scoped nodes m c.structure-of.result.now c.structure-of.ensures c.as_slice.result.now c.as_slice-2.result.now c.as_slice-3.result.now c.as_slice.ensures c.as_slice-2.ensures c.as_slice-3.ensures
     c.requires.typed c.requires.words (method_spelt nodes c.args.m.0 m c.requires.words c.method-method.ensures)
+
+pub saved-requires : goal.saved-requires
+saved-requires c = saved_known c.args.t.now c.args.m.0 c.method-method.result.now c.body-body.result.now c.method-method.ensures c.body-body.ensures c.args.points.now.saved c.requires.saved
 
 pub keeps_held-requires-clause-known : goal.keeps_held-requires-clause-known
 keeps_held-requires-clause-known c = body_known c.args.t.now c.args.m.0 c.body-body.result.now c.requires.typed c.body-body.ensures
@@ -35,6 +38,7 @@ invariant_of-result c =
       same_nodes = ap (λ (it : ScopeTree). it.nodes) c.new.ensures;
       same_names = names_same nodes m c.structure-of.result.now c.structure-of.ensures c.as_slice.result.now c.as_slice-2.result.now c.as_slice-3.result.now c.as_slice.ensures c.as_slice-2.ensures c.as_slice-3.ensures
           c.body-body.result.now c.new.result c.new.ensures;
+      saved_same = saved_same nodes c.args.m.0 m c.body-body.result.now c.method-method.ensures c.body-body.ensures c.args.points.now.saved c.requires.saved c.saved.result.now c.saved.ensures;
       held_same = c.keeps_held.ensures;
       counted_same = c.keeps_count.ensures;
       returned_same = c.returns.ensures;
