@@ -74,6 +74,133 @@ pub func s.h() base.u8 {
     return 0
 }
 """, ["call p.f", "call p.g", "call p.h"]),
+    "a complement that is compared": ("""\
+pub struct s?(
+    x : base.u8,
+    w : base.u16,
+    a : array[4] base.u8,
+)
+pub func s.f!(x: base.u8, y: base.u8, w: base.u16, v: base.u16, d: base.u32) base.u32 {
+    var m : base.u32
+    this.x = args.x ^ 255
+    this.w = args.w ^ 0xFFFF
+    this.a[1] = args.y
+    if (args.x ^ 255) == args.y {
+        m |= 1
+    }
+    if args.y < (255 ^ args.x) {
+        m |= 2
+    }
+    if (args.x ^ 255) >= 7 {
+        m |= 4
+    }
+    if (255 ~mod- args.x) <> args.y {
+        m |= 8
+    }
+    if (args.w ^ 0xFFFF) <= args.v {
+        m |= 16
+    }
+    if (65535 ~mod- args.w) > (args.y as base.u16) {
+        m |= 32
+    }
+    if ((args.x ^ 255) as base.u16) == args.w {
+        m |= 64
+    }
+    if ((args.x ^ 255) as base.u32) < args.d {
+        m |= 128
+    }
+    if ((255 ~mod- args.x) as base.u64) < 300 {
+        m |= 256
+    }
+    if (this.x ^ 255) == (args.y ^ 255) {
+        m |= 512
+    }
+    if (this.a[1] ^ 255) == this.a[0] {
+        m |= 1024
+    }
+    if (this.w ^ 0xFFFF) <> 3 {
+        m |= 2048
+    }
+    if not ((255 ^ this.a[args.x & 3]) < args.y) {
+        m |= 4096
+    }
+    if (args.x ^ args.y ^ 255) < 9 {
+        m |= 8192
+    }
+    while ((args.x ~sat+ args.y) ^ 255) > 200 {
+        m |= 16384
+        break
+    } endwhile
+    if ((args.x as base.u16) ^ 255) == args.w {
+        m |= 32768
+    }
+    if (0xFF ^ (args.x as base.u32)) < (args.y as base.u32) {
+        m |= 65536
+    }
+    if (((args.x as base.u32) ^ 255) as base.u8) >= args.y {
+        m |= 131072
+    }
+    if ((255 - (args.x as base.u32)) as base.u8) <> args.y {
+        m |= 262144
+    }
+    if ((255 ~mod- args.x) as base.u16) > args.w {
+        m |= 524288
+    }
+    if ((args.w as base.u64) ^ 0xFFFF) <= ((args.x ~sat+ 7) as base.u64) {
+        m |= 1048576
+    }
+    if ((args.d as base.u64) ^ 0xFFFF_FFFF) == 127 {
+        m |= 2097152
+    }
+    if (65535 ~mod- (args.x as base.u16)) == (args.v ^ 0xFF) {
+        m |= 4194304
+    }
+    if ((args.d & 255) as base.u8) == (args.x ^ 255) {
+        m |= 8388608
+    }
+    return m
+}
+pub func s.g!(src: base.io_reader) base.bool {
+    if args.src.length() < 1 {
+        return false
+    }
+    return (args.src.peek_u8() ^ 255) == this.x
+}
+""", ["call p.f x=1 y=254 w=254 v=65281 d=255", "call p.f x=0 y=0 w=0 v=0 d=0", "call p.f x=255 y=255 w=65535 v=65535 d=4294967295", "call p.f x=129 y=126 w=60000 v=5535 d=127", "put b 81", "call p.g src=b"]),
+    "an or with all ones": ("""\
+pub struct s?(
+    n : base.u8,
+    w : base.u16,
+)
+pri func s.h!(x: base.u8, w: base.u16) base.u16 {
+    return (args.x as base.u16) | args.w
+}
+pub func s.f!(x: base.u8, y: base.u8, w: base.u16) base.u8 {
+    var m : base.u8
+    var t : base.u16
+    m = ((args.x & 1) + (args.y & 1)) | 255
+    this.n = 255 | ((args.x & 15) * 3)
+    this.w = ((args.w & 255) + 7) | 0xFFFF
+    this.w = (((args.x & 1) + (args.y & 1)) | 255) as base.u16
+    t = this.h!(x: ((args.x >> 1) + 3) | 255, w: ((args.w & 7) * 3) | 65535)
+    this.w &= t
+    m = ((args.x & 3) * (args.y & 3)) | 255 | args.y
+    this.n &= m
+    m = (((args.x & 1) + (args.y & 1)) | 254) | 1
+    this.n &= m
+    m = (((args.x & 3) + 4) | 255) ~sat- (args.y & 1)
+    this.n &= m | 1
+    m = args.y ~sat+ (255 | ((args.x & 3) << 2))
+    this.n &= m
+    m = (((args.w & 7) + (args.w & 8)) | 255) as base.u8
+    this.n &= m
+    this.w &= 65535 | (args.x as base.u16)
+    return ((args.x / 2) + (args.y / 2)) | 255
+}
+pub func s.g() base.u16 {
+    return this.w | (this.n as base.u16)
+}
+""", ["call p.f x=1 y=254 w=254", "call p.g", "call p.f x=0 y=0 w=0", "call p.g"]),
     "a result without a return": ("""\
 pub struct s?(
     n : base.u8,

@@ -1,10 +1,12 @@
 -- What an expression of the source is in C. Its value is the same wherever the source's isn't stuck. A cast stands where C
--- would calculate in another type than the source, and nowhere else: a byte beside a word is converted by C itself.
-use Rattle.std.specs.Prelude.{ℕ, ◌*◌, Bool, true, false, ◌&&◌, ◌||◌, if◌then◌else◌, nat_eq, nat_le, nat_lt, List, [], ◌∷◌, ◌++◌, Option, None, Some, bytes_eq, codes, decimal}
+-- would calculate in another type than the source: a byte beside a word is converted by C itself. Beyond that one stands round an
+-- or that may fill its width, where it is converted.
+use Rattle.std.specs.Prelude.{ℕ, ◌-◌, ◌*◌, ◌^◌, Bool, true, false, not, ◌&&◌, ◌||◌, if◌then◌else◌, nat_eq, nat_le, nat_lt, List, [], ◌∷◌, ◌++◌, Option, None, Some, bytes_eq, codes, decimal}
 use Rattle.wf_text.specs.declared.categories.Category.{Category}
 use Rattle.wf_text.specs.declared.categories.Category.TheVariants.{Fine, Note, Suspension, Fault}
 use Rattle.wf_num.specs.declared.c_arithmetic.CTy.{CTy}
 use Rattle.wf_num.specs.declared.c_arithmetic.CTy.TheVariants.{Int, U32, U64}
+use Rattle.wf_num.specs.CArithmetic.{c_width}
 use Rattle.wf_base.specs.declared.base_methods.PeekForm.{PeekForm}
 use Rattle.wf_base.specs.declared.base_methods.PeekForm.TheVariants.{PeekU8, PeekU16Le, PeekU32Le}
 use Rattle.wf_ast.specs.TypedTree.{Path, local, field, arg, Arith, plus, minus, times, divided, remainder, shift_left, shift_right, bits_and, bits_or, bits_xor, mod_plus, mod_minus, mod_times, mod_shift_left, sat_plus, sat_minus, Order, less, at_most, equal, differs, at_least, greater, Question, reader_length, reader_position, peek, writer_length, writer_position, NumTree, number, read, element, link, convert, length_of, asked, SliceTree, slice, array, cut, EndTree, absent, present, StatusTree, status, held, no_status, CondTree, truth, flag, compare, same_status, junction, negation, closed, has_category}
@@ -109,6 +111,39 @@ saturated sum bits a b = called (saturating_name sum bits) (args (a ∷ b ∷ []
 abbrev pub cut_off : (bits : ℕ) → ExprTree → ExprTree
 cut_off bits e = if nat_le bits 16 then cast (uint_of bits) e else e
 
+-- What C keeps apart anyway: a variable, a field or an element.
+abbrev pub is_held : ExprTree → Bool
+is_held (variable name) = true
+is_held (member of name) = true
+is_held (c.element of index) = true
+is_held (c.number n) = true
+is_held e = false
+
+abbrev pub is_literal : ExprTree → Bool
+is_literal (c.number n) = true
+is_literal e = false
+
+-- An or of a constant with what is calculated, or with all ones of 8 or 16 bits. gcc remarks where such an or in `int` becomes a
+-- constant as it is converted to fewer bits, unless a cast says that it is.
+abbrev pub is_full : ExprTree → Bool
+is_full (c.number (literals.Int n)) = nat_eq n 255 || nat_eq n 65535
+is_full e = false
+
+abbrev pub fills : ExprTree → ExprTree → Bool
+fills a b = is_literal a && (is_full a || not (is_held b))
+
+abbrev pub is_or : COp → Bool
+is_or BitOr = true
+is_or op = false
+
+abbrev pub is_filled : ExprTree → Bool
+is_filled (operation op a b others) = is_or op && (fills a b || fills b a)
+is_filled e = false
+
+-- What C converts to a width: where it is assigned, passed or returned.
+abbrev pub taken : (bits : ℕ) → ExprTree → ExprTree
+taken bits e = if is_filled e then cut_off bits e else e
+
 -- The left factor of a product modulo 2^bits: two numbers of 16 bits would leave `int`.
 abbrev pub factor : (bits : ℕ) → (left right : Rated) → ExprTree
 factor bits a b = if nat_eq bits 16 then recast 32 a.code else balanced bits a b
@@ -124,17 +159,9 @@ linked mod_shift_left bits joined a b = cut_off bits (two Shl (firm bits a) b.co
 linked minus bits joined a b = two Sub (balanced bits a b) b.code
 linked divided bits joined a b = two Div (balanced bits a b) b.code
 linked remainder bits joined a b = two Rem (balanced bits a b) b.code
-linked sat_plus bits joined a b = saturated true bits a.code b.code
-linked sat_minus bits joined a b = saturated false bits a.code b.code
+linked sat_plus bits joined a b = saturated true bits (taken bits a.code) (taken bits b.code)
+linked sat_minus bits joined a b = saturated false bits (taken bits a.code) (taken bits b.code)
 linked op bits joined a b = chained joined (op_of op) (balanced bits a b) b.code
-
--- What C keeps apart anyway: a variable, a field or an element.
-abbrev pub is_held : ExprTree → Bool
-is_held (variable name) = true
-is_held (member of name) = true
-is_held (c.element of index) = true
-is_held (c.number n) = true
-is_held e = false
 
 -- `as`: a cast to a narrower type of calculation, and one to a wider type of what was calculated in `int`.
 abbrev pub converted : (bits : ℕ) → Rated → Rated
@@ -250,10 +277,64 @@ abbrev mutual
 abbrev pub lowered_expr : Names → NumTree → ExprTree
 lowered_expr names t = (lowered names t).code
 
+-- What is converted, however often.
+abbrev pub bare : NumTree → NumTree
+bare (convert at sign bits a) = bare a
+bare t = t
+
 -- The same where it is assigned, passed or returned: C converts it to the type of what takes it.
 abbrev pub given : Names → NumTree → ExprTree
-given names (convert at sign bits a) = given names a
+given names (convert at sign bits a) = taken bits (lowered_expr names (bare a))
+given names (link at sign op bits joined a b) = taken bits (lowered_expr names (link at sign op bits joined a b))
 given names t = lowered_expr names t
+
+-- All ones of the width of 8 or 16 bits, and those of fewer bits than a width.
+abbrev pub is_ones : (bits : ℕ) → NumTree → Bool
+is_ones bits (number at n) = nat_le bits 16 && nat_eq n (2 ^ bits - 1)
+is_ones bits t = false
+
+abbrev pub is_short_ones : (bits : ℕ) → NumTree → Bool
+is_short_ones bits (number at n) = nat_eq n 255 || (nat_eq n 65535 || (nat_eq bits 64 && nat_eq n 4294967295))
+is_short_ones bits t = false
+
+abbrev pub is_converted : NumTree → Bool
+is_converted (convert at sign bits a) = true
+is_converted t = false
+
+-- One operation by itself.
+abbrev pub apart : Arith → (bits : ℕ) → (left right : Rated) → Rated
+apart op bits a b = rated (linked op bits false a b) (calculated bits)
+
+abbrev pub with_zero : (bits : ℕ) → Rated → Rated
+with_zero bits a = apart plus bits a (rated (num 0) Int)
+
+-- An operand of an xor that is compared, with the other operand. gcc takes a widened byte xor-ed with 255 for its complement, but
+-- not one that 0 is added to.
+abbrev pub xor_operand : (bits : ℕ) → NumTree → Rated → (other : NumTree) → Rated
+xor_operand bits t a other = if is_short_ones bits other && is_converted t then with_zero bits a else a
+
+-- Two operands that are compared as one number. gcc takes `x ^ 255` and `(uint8_t)(255 - x)` for the complement `~x`, and remarks on
+-- its being compared; so a complement of 8 or 16 bits stands there as the difference to all ones that it is.
+abbrev pub pair_compared : Names → Arith → (bits : ℕ) → (left right : NumTree) → Rated
+pair_compared names bits_xor bits a b =
+    if is_ones bits b then apart minus bits (lowered names b) (lowered names a)
+    else if is_ones bits a then apart minus bits (lowered names a) (lowered names b)
+    else apart bits_xor bits (xor_operand bits a (lowered names a) b) (xor_operand bits b (lowered names b) a)
+pair_compared names mod_minus bits a b =
+    if is_ones bits a then apart minus bits (lowered names a) (lowered names b) else apart mod_minus bits (lowered names a) (lowered names b)
+pair_compared names op bits a b = apart op bits (lowered names a) (lowered names b)
+
+abbrev pub compared_as : Names → NumTree → Rated
+compared_as names (link at sign op bits false a b) = pair_compared names op bits a b
+compared_as names t = lowered names t
+
+-- A number where it is compared: conversions stand for nothing there, since C compares in the wider of two types.
+abbrev pub comparand : Names → NumTree → Rated
+comparand names t = compared_as names (bare t)
+
+-- Beside a number of a wider type, what was calculated in `int` is cast.
+abbrev pub beside : Rated → CTy → Rated
+beside a ty = if nat_lt (rank a.ty) (rank ty) then converted (c_width ty) a else a
 
 -- Statuses.
 abbrev pub status_constant : ℕ → ExprTree
@@ -278,13 +359,12 @@ order_op greater = Gt
 abbrev pub same_code : (left right : ExprTree) → (fixed : Bool) → ExprTree
 same_code a b fixed = if fixed then two Eq b a else if is_held a then unary Not (two Ne a b) else two Eq a b
 
-abbrev pub is_literal : ExprTree → Bool
-is_literal (c.number n) = true
-is_literal e = false
-
 abbrev pub compared : Order → ExprTree → ExprTree → ExprTree
 compared equal a b = if is_literal a then two Eq a b else same_code a b (is_literal b)
 compared op a b = two (order_op op) a b
+
+abbrev pub numbers_compared : Order → Rated → Rated → ExprTree
+numbers_compared op a b = compared op (beside a b.ty).code (beside b a.ty).code
 
 abbrev pub is_constant : StatusTree → Bool
 is_constant (status at n) = true
@@ -321,7 +401,7 @@ category_code Fault e = begins_with 35 e
 abbrev pub lowered_cond : Names → CondTree → ExprTree
 lowered_cond names (truth at b) = num (if b then 1 else 0)
 lowered_cond names (flag at path) = path_code names path
-lowered_cond names (compare at sign a op b) = compared op (lowered_expr names a) (lowered_expr names b)
+lowered_cond names (compare at sign a op b) = numbers_compared op (comparand names a) (comparand names b)
 lowered_cond names (same_status at sign a one b) = statuses_compared one names a b
 lowered_cond names (junction at both joined a b) = chained joined (if both then Both else Either) (lowered_cond names a) (lowered_cond names b)
 lowered_cond names (negation at a) = unary Not (lowered_cond names a)

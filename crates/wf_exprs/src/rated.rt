@@ -6,13 +6,14 @@ ghost use Rattle.wf_base.specs.BaseTable.{bits_of};
 ghost use Rattle.wf_ast.specs.TypedTrees.{operator_kind};
 ghost use Rattle.c_text.specs.CNodes.{expr_of};
 ghost use Rattle.c_text.specs.CSpelling.{IsLiteral};
-ghost use Rattle.wf_exprs.specs.Exprs.{balanced as balanced_code, calculated as calculated_of, converted as converted_code, cut_off as cut_off_code, factor as factor_code, firm as firm_code, literal_type as type_of_literal, rank as rank_of, recast as recast_code, saturated as saturated_code, saturating_name as name_of_saturating, suffixed as suffixed_literal, wider as wider_of};
+ghost use Rattle.wf_num.specs.CArithmetic.{c_width};
+ghost use Rattle.wf_exprs.specs.Exprs.{balanced as balanced_code, beside as beside_code, calculated as calculated_of, converted as converted_code, cut_off as cut_off_code, factor as factor_code, fills as fills_tree, firm as firm_code, is_filled as is_filled_tree, is_full as is_full_tree, is_or as is_or_op, literal_type as type_of_literal, rank as rank_of, recast as recast_code, saturated as saturated_code, saturating_name as name_of_saturating, suffixed as suffixed_literal, taken as taken_code, wider as wider_of};
 ghost use Rattle.wf_exprs.specs.Grown.{Grows, HasExpr, HasNamed};
 ghost use Rattle.wf_exprs.specs.Making.{HasRated, c_op, linked_by, rated_in, small_number};
 ghost use Rattle.wf_exprs.specs.Words.{two as two_trees};
 
 use crate::names::put_numbered;
-use crate::nodes::{called, cast, is_held, literal, put, two};
+use crate::nodes::{called, cast, is_held, is_literal, literal, put, two};
 use c_text::{CExpr, CExprId, CNameId, CNumber, COp, Unit};
 use std::alloc::Global;
 use wf_ast::Op;
@@ -149,6 +150,64 @@ fn cut_off(u: &mut Unit, width: Width, e: CExprId) -> Result<CExprId, NoMemory>
     }
 }
 
+/// Whether an expression is all ones of 8 or 16 bits.
+fn is_full(u: &Unit, e: CExprId) -> bool
+    requires { e.0 < length u.now.exprs }
+    ensures { result ≡ is_full_tree (expr_of u.now e.0) }
+{
+    match u.expr(e) {
+        CExpr::Number(CNumber::Int(n)) => *n == 255 || *n == 65535,
+        _ => false,
+    }
+}
+
+/// Whether an or of these two may be a constant once it is converted, by the first.
+fn fills(u: &Unit, a: CExprId, b: CExprId) -> bool
+    requires first { a.0 < length u.now.exprs }
+    requires second { b.0 < length u.now.exprs }
+    ensures { result ≡ fills_tree (expr_of u.now a.0) (expr_of u.now b.0) }
+{
+    is_literal(u, a) && (is_full(u, a) || !is_held(u, b))
+}
+
+fn is_or(op: COp) -> bool
+    ensures { result ≡ is_or_op op }
+{
+    match op {
+        COp::BitOr => true,
+        _ => false,
+    }
+}
+
+/// Whether an expression is an or that may be a constant once it is converted.
+fn is_filled(u: &Unit, e: CExprId) -> bool
+    requires { e.0 < length u.now.exprs }
+    ensures { result ≡ is_filled_tree (expr_of u.now e.0) }
+{
+    match u.expr(e) {
+        CExpr::Operation {
+            op,
+            first,
+            second,
+            ..
+        } => is_or(*op) && (fills(u, *first, *second) || fills(u, *second, *first)),
+        _ => false,
+    }
+}
+
+/// What C converts to this width: where it is assigned, passed or returned.
+pub fn taken(u: &mut Unit, width: Width, e: CExprId) -> Result<CExprId, NoMemory>
+    requires { e.0 < length u.old.exprs }
+    ensures grows { Grows u.old u.new }
+    ensures made { IfOk result (λ it. HasExpr u.new it.0 (taken_code (bits_of width) (expr_of u.old e.0))) }
+{
+    if is_filled(u, e) {
+        cut_off(u, width, e)
+    } else {
+        Ok(e)
+    }
+}
+
 /// The left factor of a product modulo 2^N: two numbers of 16 bits would leave `int`.
 fn factor(u: &mut Unit, width: Width, a: Rated, b: Rated) -> Result<CExprId, NoMemory>
     requires { a.code.0 < length u.old.exprs }
@@ -201,6 +260,25 @@ pub fn saturated(
 {
     let function = saturating_name(u, is_sum, width)?;
     called(alloc, u, function, a, b)
+}
+
+/// A saturating operator between two numbers: its function takes them.
+fn saturated_taken(
+    alloc: Global,
+    u: &mut Unit,
+    is_sum: bool,
+    width: Width,
+    a: CExprId,
+    b: CExprId,
+) -> Result<CExprId, NoMemory>
+    requires first { a.0 < length u.old.exprs }
+    requires second { b.0 < length u.old.exprs }
+    ensures grows { Grows u.old u.new }
+    ensures made { IfOk result (λ it. HasExpr u.new it.0 (saturated_code is_sum (bits_of width) (taken_code (bits_of width) (expr_of u.old a.0)) (taken_code (bits_of width) (expr_of u.old b.0)))) }
+{
+    let first = taken(u, width, a)?;
+    let second = taken(u, width, b)?;
+    saturated(alloc, u, is_sum, width, first, second)
 }
 
 /// A result modulo 2^N of two numbers, of which the left one is this.
@@ -278,8 +356,8 @@ pub fn linked(
             let left = balanced(u, width, a, b)?;
             cut_off_two(alloc, u, width, op_of(op), left, b.code)
         }
-        Op::SatAdd => saturated(alloc, u, true, width, a.code, b.code),
-        Op::SatSub => saturated(alloc, u, false, width, a.code, b.code),
+        Op::SatAdd => saturated_taken(alloc, u, true, width, a.code, b.code),
+        Op::SatSub => saturated_taken(alloc, u, false, width, a.code, b.code),
         Op::Add
         | Op::Sub
         | Op::Mul
@@ -312,6 +390,29 @@ pub fn converted(u: &mut Unit, width: Width, a: Rated) -> Result<Rated, NoMemory
     if rank(ty) < rank(a.ty) || (rank(a.ty) < rank(ty) && !is_held(u, a.code) && rank(a.ty) == 0) {
         let code = cast(u, width, a.code)?;
         Ok(Rated { code, ty })
+    } else {
+        Ok(a)
+    }
+}
+
+/// The width in which C calculates numbers of a type.
+fn width_in(ty: CTy) -> Width
+    ensures { bits_of result ≡ c_width ty }
+{
+    match ty {
+        CTy::Int | CTy::U32 => Width::W32,
+        CTy::U64 => Width::W64,
+    }
+}
+
+/// A number beside one of this type: what was calculated in `int` is cast where that is wider.
+pub fn beside(u: &mut Unit, a: Rated, ty: CTy) -> Result<Rated, NoMemory>
+    requires { a.code.0 < length u.old.exprs }
+    ensures grows { Grows u.old u.new }
+    ensures made { IfOk result (λ r. HasRated u.new r (beside_code (rated_in u.old a) ty)) }
+{
+    if rank(a.ty) < rank(ty) {
+        converted(u, width_in(ty), a)
     } else {
         Ok(a)
     }

@@ -29,12 +29,12 @@ use Rattle.c_meaning.specs.CExprs.{Surroundings, held_value, combined, truth_val
 use Rattle.c_meaning.specs.CExprs as c
 use Rattle.wf_exprs.specs.Names.{names_of, status_name}
 use Rattle.wf_exprs.specs.Words.{literal, num, two}
-use Rattle.wf_exprs.specs.Exprs.{literal_type, path_code, is_held, is_literal, is_constant, constant_number, constants_compared, held_compared, order_op, compared, chained, lowered, lowered_expr, status_constant, lowered_status, statuses_compared, begins_with, category_code, lowered_cond}
+use Rattle.wf_exprs.specs.Exprs.{literal_type, path_code, is_held, is_literal, is_constant, constant_number, constants_compared, held_compared, order_op, Rated, beside, compared, numbers_compared, chained, comparand, status_constant, lowered_status, statuses_compared, begins_with, category_code, lowered_cond}
 use Rattle.wf_exprs_laws.specs.ExprLaw.{Declares, HasConstant, DeclaresStatus, DeclaresCond, IsNull, IsStatusValue, GivesNumber, GivesStatus, cell_behind, Stands}
 use Rattle.wf_exprs_laws.proofs.CNumbers.{comparison-whole}
 use Rattle.wf_exprs_laws.proofs.Operands.{IsNumber, literal-number, chained-value}
 use Rattle.wf_exprs_laws.proofs.Buffers.{buffer-some, reader-type}
-use Rattle.wf_exprs_laws.proofs.Trees.{came, mapped, numbers as numbers_law}
+use Rattle.wf_exprs_laws.proofs.Trees.{came, mapped, beside-number, comparand-number}
 
 -- An expression of C holds or doesn't, as a truth value says.
 pub record CondGives (x : Surroundings) (e : ExprTree) (b : Bool) : Type 0 where
@@ -97,6 +97,9 @@ compared-cond x equal e f a b m n h g =
 compared-cond x differs e f a b m n h g = order-cond x differs e f a b m n h g
 compared-cond x at_least e f a b m n h g = order-cond x at_least e f a b m n h g
 compared-cond x greater e f a b m n h g = order-cond x greater e f a b m n h g
+
+numbers-cond : (x : Surroundings) (op : Order) (a b : Rated) (m n : ℕ) → IsNumber x a.code a.ty m → IsNumber x b.code b.ty n → CondGives x (numbers_compared op a b) (compares op m n)
+numbers-cond x op a b m n h g = compared-cond x op (beside a b.ty).code (beside b a.ty).code (beside a b.ty).ty (beside b a.ty).ty m n (beside-number x a b.ty m h) (beside-number x b a.ty n g)
 
 -- ---- `and` and `or`
 
@@ -433,15 +436,15 @@ module _ (p : PackageTree) (m : MethodTree) (s : State) (x : Surroundings) (st :
 
   compare-cond : (op : Order) (a b : NumTree) (t : Bool) → Declares (names_of p m) s x a × Declares (names_of p m) s x b → (well_num (record { within = p; method = m }) a && well_num (record { within = p; method = m }) b) ≡ true
       → option_and_then (λ k. option_map (compares op k) (value s b)) (value s a) ≡ Some t
-      → CondGives x (compared op (lowered_expr (names_of p m) a) (lowered_expr (names_of p m) b)) t
+      → CondGives x (numbers_compared op (comparand (names_of p m) a) (comparand (names_of p m) b)) t
   compare-cond op a b t u h e =
       let q = and_parts (well_num (record { within = p; method = m }) a) _ h in
       let d = came (λ k. option_map (compares op k) (value s b)) (value s a) t e in
       let f = mapped (compares op d.from) (value s b) t d.gives in
-      let g = numbers_law p m s x st a d.from u.0 (and_parts (is_whole_number a) _ q.0).1 d.is in
-      let i = numbers_law p m s x st b f.from u.1 (and_parts (is_whole_number b) _ q.1).1 f.is in
-      subst (λ t. CondGives x (compared op (lowered_expr (names_of p m) a) (lowered_expr (names_of p m) b)) t) f.gives
-      (compared-cond x op (lowered_expr (names_of p m) a) (lowered_expr (names_of p m) b) (lowered (names_of p m) a).ty (lowered (names_of p m) b).ty d.from f.from g.is i.is)
+      let g = comparand-number p m s x st a d.from u.0 (and_parts (is_whole_number a) _ q.0).1 d.is in
+      let i = comparand-number p m s x st b f.from u.1 (and_parts (is_whole_number b) _ q.1).1 f.is in
+      subst (λ t. CondGives x (numbers_compared op (comparand (names_of p m) a) (comparand (names_of p m) b)) t) f.gives
+      (numbers-cond x op (comparand (names_of p m) a) (comparand (names_of p m) b) d.from f.from g i)
 
   pub conditions : (t : CondTree) (b : Bool) → DeclaresCond (names_of p m) s x t → well_cond (record { within = p; method = m }) t ≡ true → truth_of s t ≡ Some b → CondGives x (lowered_cond (names_of p m) t) b
   conditions (truth at v) b u h e = let same : v ≡ b = cc e in subst (λ b. CondGives x (num (if v then 1 else 0)) b) same (truth-literal v)

@@ -1,6 +1,7 @@
 pub mod CNumbers
 pub mod Operands
 pub mod Links
+pub mod Ones
 pub mod Pointers
 pub mod Buffers
 pub mod Trees

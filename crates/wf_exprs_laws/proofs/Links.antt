@@ -22,10 +22,10 @@ use Rattle.c_meaning.specs.CTypes.{type_of}
 use Rattle.c_meaning.specs.CExprs.{Surroundings}
 use Rattle.c_meaning.specs.CExprs as c
 use Rattle.wf_exprs.specs.Words.{uint_of, two}
-use Rattle.wf_exprs.specs.Exprs.{calculated, rank, Rated, recast, firm, balanced, saturated, cut_off, linked, chained}
+use Rattle.wf_exprs.specs.Exprs.{calculated, rank, Rated, recast, firm, balanced, saturated, cut_off, taken, linked, chained}
 use Rattle.wf_exprs_laws.specs.ExprLaw.{DeclaresOperator}
 use Rattle.wf_exprs_laws.proofs.CNumbers.{by_width, width-limit, width-of_calculated, common-turned}
-use Rattle.wf_exprs_laws.proofs.Operands.{the-number, IsNumber, has-type, cast-typed, cast-value, recast-number, firm-number, common-wider, balanced-number, Calculates, chained-number, calculated-number}
+use Rattle.wf_exprs_laws.proofs.Operands.{the-number, IsNumber, has-type, cast-typed, cast-value, taken-number, recast-number, firm-number, common-wider, balanced-number, Calculates, chained-number, calculated-number}
 
 -- ---- what the source's operators say
 
@@ -356,10 +356,14 @@ module _ (bits : ℕ) (w : is_width bits ≡ true) (x : Surroundings) (joined : 
   linked-number sat_plus d k r e =
       let s : min (m + n) (2 ^ bits - 1) ≡ r = cc e in
       let f = k refl in
-      subst (λ r. IsNumber x (saturated true bits a.code b.code) (calculated bits) r) s
-      (record { gives = d a.code b.code a.ty b.ty m n w small f.0 (the-number x a.code a.ty m h) (the-number x b.code b.ty n g); small = width-limit bits (min (m + n) (2 ^ bits - 1)) w (capped-below bits m n w) })
+      let l = taken-number bits w x a.code a.ty m h small in
+      let t = taken-number bits w x b.code b.ty n g f.0 in
+      subst (λ r. IsNumber x (saturated true bits (taken bits a.code) (taken bits b.code)) (calculated bits) r) s
+      (record { gives = d (taken bits a.code) (taken bits b.code) l.0 t.0 m n w small f.0 (the-number x (taken bits a.code) l.0 m l.1) (the-number x (taken bits b.code) t.0 n t.1); small = width-limit bits (min (m + n) (2 ^ bits - 1)) w (capped-below bits m n w) })
   linked-number sat_minus d k r e =
       let s : m - n ≡ r = cc e in
       let f = k refl in
-      subst (λ r. IsNumber x (saturated false bits a.code b.code) (calculated bits) r) s
-      (record { gives = d a.code b.code a.ty b.ty m n w small f.0 (the-number x a.code a.ty m h) (the-number x b.code b.ty n g); small = width-limit bits (m - n) w (omega (arith, small)) })
+      let l = taken-number bits w x a.code a.ty m h small in
+      let t = taken-number bits w x b.code b.ty n g f.0 in
+      subst (λ r. IsNumber x (saturated false bits (taken bits a.code) (taken bits b.code)) (calculated bits) r) s
+      (record { gives = d (taken bits a.code) (taken bits b.code) l.0 t.0 m n w small f.0 (the-number x (taken bits a.code) l.0 m l.1) (the-number x (taken bits b.code) t.0 n t.1); small = width-limit bits (m - n) w (omega (arith, small)) })

@@ -1,6 +1,6 @@
 -- The types and the values of the C expressions that lowering builds of numbers: literals, casts and operators.
 use Rattle.std.proofs.Common.{◌≡◌, ℕ, ◌%◌, ◌^◌, ◌<◌, ◌≤◌, Bool, true, false, List, [], ◌∷◌, ◌++◌, Option, Some, None, refl, sym, ap, ◌∙◌, subst, arith, pos}
-use Rattle.std.specs.Prelude.{if◌then◌else◌, nat_eq, nat_lt, option_map, option_and_then, bytes_eq, find, unwrap_or}
+use Rattle.std.specs.Prelude.{if◌then◌else◌, nat_eq, nat_le, nat_lt, option_map, option_and_then, bytes_eq, find, unwrap_or}
 use Rattle.std.proofs.lemmas.Bool.Decides.{nat_tests}
 use Rattle.std.proofs.lemmas.Slice.Eq.{bytes_eq-Decides}
 use Rattle.std.proofs.lemmas.Int.{ints}
@@ -25,7 +25,7 @@ use Rattle.c_meaning.specs.CTypes.{StructDecl, CScope, ExprType, numbers, points
 use Rattle.c_meaning.specs.CExprs.{Surroundings, as_type, combined, from_left, is_object_pointer, operand_values}
 use Rattle.c_meaning.specs.CExprs as c
 use Rattle.wf_exprs.specs.Words.{literal, num, width_of, uint_of, two}
-use Rattle.wf_exprs.specs.Exprs.{calculated, rank, Rated, literal_type, suffixed, recast, firm, balanced, with_operand, same_op, chained}
+use Rattle.wf_exprs.specs.Exprs.{calculated, rank, Rated, literal_type, suffixed, recast, firm, balanced, is_filled, taken, with_operand, same_op, chained}
 use Rattle.wf_exprs_laws.specs.ExprLaw.{GivesNumber, IsTheNumber}
 use Rattle.wf_exprs_laws.proofs.CNumbers.{by_width, width-limit, same-arithmetic, common-turned}
 
@@ -133,6 +133,16 @@ cast-number bits w x e ty n h k =
       };
       small = width-limit bits n w k;
     }
+
+-- And so does what C converts to it.
+pub taken-number : (bits : ℕ) → is_width bits ≡ true → (x : Surroundings) (e : ExprTree) (ty : CTy) (n : ℕ) → IsNumber x e ty n → n < 2 ^ bits
+    → (own : CTy) × IsNumber x (taken bits e) own n
+taken-number bits w x e ty n h k = by (is_filled e) (nat_le bits 16)
+  where
+    by : (filled short : Bool) → (own : CTy) × IsNumber x (if filled then (if short then cast (uint_of bits) e else e) else e) own n
+    by true true = (calculated bits, cast-number bits w x e ty n h k)
+    by true false = (ty, h)
+    by false short = (ty, h)
 
 abbrev bits_in : Option CValue → ℕ
 bits_in (Some (numeric k)) = k.bits

@@ -1,17 +1,19 @@
 -- The law for numbers and slices, by their trees.
-use Rattle.std.proofs.Common.{◌≡◌, ℕ, ◌^◌, ◌<◌, ◌≤◌, Bool, true, false, not, ◌&&◌, ◌||◌, Option, Some, None, refl, ap, ◌∙◌, sym, subst, arith, inl, inr}
-use Rattle.std.specs.Prelude.{if◌then◌else◌, nat_eq, nat_lt, option_map, option_and_then}
+use Rattle.std.proofs.Common.{◌≡◌, ℕ, ◌+◌, ◌-◌, ◌%◌, ◌^◌, ◌<◌, ◌≤◌, Bool, true, false, not, ◌&&◌, ◌||◌, Option, Some, None, refl, ap, ◌∙◌, sym, subst, arith, inl, inr}
+use Rattle.std.specs.Prelude.{if◌then◌else◌, nat_eq, nat_le, nat_lt, bit_xor, option_map, option_and_then}
 use Rattle.std.proofs.lemmas.Bool.{and_parts, or_cases}
 use Rattle.std.proofs.lemmas.Bool.Decides.{nat_tests}
 use Rattle.wf_num.specs.declared.c_arithmetic.CTy.{CTy}
 use Rattle.wf_num.specs.declared.c_arithmetic.CTy.TheVariants.{Int, U32, U64}
+use Rattle.wf_num.specs.CArithmetic.{c_width}
+use Rattle.wf_num.proofs.CLaws.{c_limit}
 use Rattle.wf_base.specs.declared.widths.Width.{Width}
 use Rattle.wf_base.specs.declared.widths.Width.TheVariants.{W8, W16, W32, W64}
 use Rattle.wf_base.specs.BaseTable.{bits_of}
 use Rattle.wf_ast.specs.declared.types.Ty.{Ty}
 use Rattle.wf_ast.specs.declared.types.Ty.TheVariants as types
 use Rattle.wf_text.specs.declared.place.Place.{Place}
-use Rattle.wf_ast.specs.TypedTree.{Path, local, field, arg, NumType, Arith, Question, reader_length, reader_position, peek, writer_length, writer_position, NumTree, number, read, element, link, convert, length_of, asked, SliceTree, slice, array, cut, EndTree, absent, present}
+use Rattle.wf_ast.specs.TypedTree.{Path, local, field, arg, NumType, Arith, plus, minus, times, divided, remainder, shift_left, shift_right, bits_and, bits_or, bits_xor, mod_plus, mod_minus, mod_times, mod_shift_left, sat_plus, sat_minus, Question, reader_length, reader_position, peek, writer_length, writer_position, NumTree, number, read, element, link, convert, length_of, asked, SliceTree, slice, array, cut, EndTree, absent, present}
 use Rattle.wf_ast.specs.TypedPackage.{MethodTree, PackageTree}
 use Rattle.wf_ast.specs.Value.{Span, State, element_of, part_of, fitted, applied, told, io_buffer, value, span_of, end_value}
 use Rattle.wf_ast.specs.WellTyped as well
@@ -22,12 +24,13 @@ use Rattle.c_meaning.specs.declared.values.CValue.TheVariants.{NullPointer as nu
 use Rattle.c_meaning.specs.CExprs.{Surroundings}
 use Rattle.wf_exprs.specs.Names.{Names, names_of}
 use Rattle.wf_exprs.specs.Words.{num, uint_of}
-use Rattle.wf_exprs.specs.Exprs.{calculated, rank, Rated, rated, is_held, converted, is_array, asked_code, lowered, given, lowered_slice, lowered_end}
+use Rattle.wf_exprs.specs.Exprs.{calculated, rank, Rated, rated, is_held, converted, beside, bare, apart, with_zero, xor_operand, is_ones, is_short_ones, is_converted, pair_compared, comparand, is_array, asked_code, lowered, given, lowered_slice, lowered_end}
 use Rattle.c_text.specs.CTree.{cast}
 use Rattle.wf_exprs_laws.specs.ExprLaw.{DeclaresOperator, DeclaresQuestion, Declares, DeclaresSlice, DeclaresEnd, GivesPointer, SpanStands, Stands}
-use Rattle.wf_exprs_laws.proofs.CNumbers.{width-limit}
-use Rattle.wf_exprs_laws.proofs.Operands.{IsNumber, suffixed-number, literal-number, literal-rank, cast-number}
+use Rattle.wf_exprs_laws.proofs.CNumbers.{by_width, width-limit}
+use Rattle.wf_exprs_laws.proofs.Operands.{IsNumber, suffixed-number, literal-number, literal-rank, cast-number, taken-number}
 use Rattle.wf_exprs_laws.proofs.Links.{fitted-some, applied-below, linked-number}
+use Rattle.wf_exprs_laws.proofs.Ones.{xor-ones, ones-xor}
 use Rattle.wf_exprs_laws.proofs.Pointers.{element-number, IsEnd, part_length-number, part_pointer-gives, part-some, part-stands}
 use Rattle.wf_exprs_laws.proofs.Buffers.{IsBuffer, buffer-some, is_reader_question, reader-type, writer-type, IsAsked, reader-asked, writer-asked}
 
@@ -90,6 +93,31 @@ converted-number bits w x a n h s = by (nat_lt (rank (calculated bits)) (rank a.
     by true stays e = recast
     by false true e = record { is = h; narrow = grind (arith, nat_tests, e) }
     by false false e = recast
+
+-- ---- numbers side by side
+
+width-of_type : (ty : CTy) → is_width (c_width ty) ≡ true
+width-of_type Int = refl
+width-of_type U32 = refl
+width-of_type U64 = refl
+
+in-wider : (own wider : CTy) (n : ℕ) → rank own < rank wider → n < c_limit own → n < 2 ^ c_width wider
+in-wider Int Int n l h = absurd (omega (arith, l))
+in-wider Int U32 n l h = omega (arith, h)
+in-wider Int U64 n l h = omega (arith, h)
+in-wider U32 Int n l h = absurd (omega (arith, l))
+in-wider U32 U32 n l h = absurd (omega (arith, l))
+in-wider U32 U64 n l h = omega (arith, h)
+in-wider U64 Int n l h = absurd (omega (arith, l))
+in-wider U64 U32 n l h = absurd (omega (arith, l))
+in-wider U64 U64 n l h = absurd (omega (arith, l))
+
+pub beside-number : (x : Surroundings) (a : Rated) (ty : CTy) (n : ℕ) → IsNumber x a.code a.ty n → IsNumber x (beside a ty).code (beside a ty).ty n
+beside-number x a ty n h = by (nat_lt (rank a.ty) (rank ty)) refl
+  where
+    by : (test : Bool) → nat_lt (rank a.ty) (rank ty) ≡ test → IsNumber x (if test then converted (c_width ty) a else a).code (if test then converted (c_width ty) a else a).ty n
+    by true e = (converted-number (c_width ty) (width-of_type ty) x a n h (in-wider a.ty ty n (grind (arith, nat_tests, e)) h.small)).is
+    by false e = h
 
 -- ---- trees
 
@@ -288,10 +316,134 @@ module _ (p : PackageTree) (m : MethodTree) (s : State) (x : Surroundings) (st :
     ends absent default n u h e = cc e
     ends (present t) default n u h e = (numbers t n u (and_parts (is_whole_number t) _ h).1 e).is
 
+  -- All ones.
+  ones-value : (bits : ℕ) (t : NumTree) (n : ℕ) → is_ones bits t ≡ true → value s t ≡ Some n → (bits ≤ 16) × (n ≡ 2 ^ bits - 1)
+  ones-value bits (number at k) n h e =
+      let q = and_parts (nat_le bits 16) _ h in
+      let same : k ≡ n = cc e in
+      (grind (arith, nat_tests, q.0), grind (arith, nat_tests, q.1, same))
+  ones-value bits (read at of path) n h e = absurd (cc h)
+  ones-value bits (element at of cells index) n h e = absurd (cc h)
+  ones-value bits (link at sign op own joined a b) n h e = absurd (cc h)
+  ones-value bits (convert at sign own a) n h e = absurd (cc h)
+  ones-value bits (length_of at cells) n h e = absurd (cc h)
+  ones-value bits (asked at question a) n h e = absurd (cc h)
+
+  minus-fits : (bits m n : ℕ) → n ≤ m → m < 2 ^ bits → applied minus bits m n ≡ Some (m - n)
+  minus-fits bits m n l f =
+      let below : nat_le n m ≡ true = grind (arith, nat_tests, l) in
+      let few : nat_lt (m - n) (2 ^ bits) ≡ true = grind (arith, nat_tests, f) in
+      rw (below, few) refl
+
+  round-ones : (bits l : ℕ) → is_width bits ≡ true → l < 2 ^ bits → (2 ^ bits - 1 + (2 ^ bits - l)) % 2 ^ bits ≡ 2 ^ bits - 1 - l
+  round-ones bits l w =
+      by_width (λ bits. l < 2 ^ bits → (2 ^ bits - 1 + (2 ^ bits - l)) % 2 ^ bits ≡ 2 ^ bits - 1 - l) bits w (λ j. omega (arith, j)) (λ j. omega (arith, j)) (λ j. omega (arith, j)) (λ j. omega (arith, j))
+
+  -- With 0 added a number is the same.
+  plus-none : (bits k : ℕ) → k < 2 ^ bits → applied plus bits k 0 ≡ Some k
+  plus-none bits k f =
+      let few : nat_lt (k + 0) (2 ^ bits) ≡ true = grind (arith, nat_tests, f) in
+      let same : k + 0 ≡ k = omega arith in
+      rw few (ap Some same)
+
+  some-number : (bits : ℕ) → is_width bits ≡ true → 0 < 2 ^ bits
+  some-number bits w = by_width (λ bits. 0 < 2 ^ bits) bits w (omega arith) (omega arith) (omega arith) (omega arith)
+
+  operand-number : (bits : ℕ) (a : NumTree) (k : ℕ) (test : Bool) → is_width bits ≡ true → fits bits a ≡ true → NumGives a k
+      → IsNumber x (if test then with_zero bits (lowered names a) else lowered names a).code (if test then with_zero bits (lowered names a) else lowered names a).ty k
+      × (rank (if test then with_zero bits (lowered names a) else lowered names a).ty ≤ rank (calculated bits))
+  operand-number bits a k true w f g =
+      let small = g.fitting bits w f in
+      let none : IsNumber x (num 0) Int 0 = literal-number x 0 (omega arith) in (
+        linked-number bits w x false (lowered names a) (rated (num 0) Int) k 0 g.is none small.0 small.1 plus tt (λ _. (some-number bits w, omega arith)) k (plus-none bits k small.0),
+        omega arith,
+      )
+  operand-number bits a k false w f g = (g.is, (g.fitting bits w f).1)
+
+  -- Two numbers that are compared as one.
+  pair-number : (at sign : Place) (op : Arith) (bits : ℕ) (a b : NumTree) (k l n : ℕ) → is_width bits ≡ true → fits bits a ≡ true → (is_shift op || fits bits b) ≡ true
+      → DeclaresOperator x op bits → NumGives a k → NumGives b l → value s a ≡ Some k → value s b ≡ Some l → applied op bits k l ≡ Some n
+      → IsNumber x (pair_compared names op bits a b).code (pair_compared names op bits a b).ty n
+  pair-number at sign bits_xor bits a b k l n w fa fb d g h p q e = by (is_ones bits b) (is_ones bits a) refl refl
+    where
+      f : (bit_xor k l ≡ n) × (n < 2 ^ bits)
+      f = fitted-some bits (bit_xor k l) n e
+
+      left : k < 2 ^ bits
+      left = (g.fitting bits w fa).0
+
+      right : l < 2 ^ bits
+      right = (h.fitting bits w fb).0
+
+      by : (other one : Bool) → is_ones bits b ≡ other → is_ones bits a ≡ one
+          → IsNumber x (if other then apart minus bits (lowered names b) (lowered names a) else if one then apart minus bits (lowered names a) (lowered names b) else apart bits_xor bits (xor_operand bits a (lowered names a) b) (xor_operand bits b (lowered names b) a)).code
+          (if other then apart minus bits (lowered names b) (lowered names a) else if one then apart minus bits (lowered names a) (lowered names b) else apart bits_xor bits (xor_operand bits a (lowered names a) b) (xor_operand bits b (lowered names b) a)).ty n
+      by true one u v =
+          let is = ones-value bits b l u q in
+          let same : l - k ≡ n = ap (λ l. l - k) is.1 ∙ sym (xor-ones bits k left) ∙ ap (bit_xor k) (sym is.1) ∙ f.0 in
+          (link-gives at sign minus bits false b a l k n w fb fa tt h g (minus-fits bits l k (omega (arith, is.1, left)) right ∙ ap Some same)).is
+      by false true u v =
+          let is = ones-value bits a k v p in
+          let same : k - l ≡ n = ap (λ k. k - l) is.1 ∙ sym (ones-xor bits l right) ∙ ap (λ k. bit_xor k l) (sym is.1) ∙ f.0 in
+          (link-gives at sign minus bits false a b k l n w fa fb tt g h (minus-fits bits k l (omega (arith, is.1, right)) left ∙ ap Some same)).is
+      by false false u v =
+          let one = operand-number bits a k (is_short_ones bits b && is_converted a) w fa g in
+          let other = operand-number bits b l (is_short_ones bits a && is_converted b) w fb h in
+          linked-number bits w x false (xor_operand bits a (lowered names a) b) (xor_operand bits b (lowered names b) a) k l one.0 other.0 left one.1 bits_xor tt (λ _. (right, other.1)) n e
+  pair-number at sign mod_minus bits a b k l n w fa fb d g h p q e = by (is_ones bits a) refl
+    where
+      left : k < 2 ^ bits
+      left = (g.fitting bits w fa).0
+
+      right : l < 2 ^ bits
+      right = (h.fitting bits w fb).0
+
+      by : (one : Bool) → is_ones bits a ≡ one → IsNumber x (if one then apart minus bits (lowered names a) (lowered names b) else apart mod_minus bits (lowered names a) (lowered names b)).code
+          (if one then apart minus bits (lowered names a) (lowered names b) else apart mod_minus bits (lowered names a) (lowered names b)).ty n
+      by true v =
+          let is = ones-value bits a k v p in
+          let come : (k + (2 ^ bits - l)) % 2 ^ bits ≡ n = cc e in
+          let same : k - l ≡ n = ap (λ k. k - l) is.1 ∙ sym (round-ones bits l w right) ∙ ap (λ k. (k + (2 ^ bits - l)) % 2 ^ bits) (sym is.1) ∙ come in
+          (link-gives at sign minus bits false a b k l n w fa fb tt g h (minus-fits bits k l (omega (arith, is.1, right)) left ∙ ap Some same)).is
+      by false v = (link-gives at sign mod_minus bits false a b k l n w fa fb tt g h e).is
+  pair-number at sign op bits a b k l n w fa fb d g h p q e = (link-gives at sign op bits false a b k l n w fa fb d g h e).is
+
+  -- A number that is compared: what is converted has the same value.
+  pub comparand-number : (t : NumTree) (n : ℕ) → Declares names s x t → well_part context t ≡ true → value s t ≡ Some n → IsNumber x (comparand names t).code (comparand names t).ty n
+  comparand-number (convert at sign bits a) n u h e =
+      let q = and_parts (is_width bits) _ h in
+      let c = came (fitted bits) (value s a) n e in
+      comparand-number a n u (and_parts (is_whole_number a) _ q.1).1 (c.is ∙ ap Some (fitted-some bits c.from n c.gives).0)
+  comparand-number (link at sign op bits true a b) n u h e = (numbers (link at sign op bits true a b) n u h e).is
+  comparand-number (link at sign op bits false a b) n u h e =
+      let q = and_parts (is_width bits) _ h in
+      let q_1 = and_parts (fits bits a) _ q.1 in
+      let q_2 = and_parts (is_shift op || fits bits b) _ q_1.1 in
+      let q_3 = and_parts (not false || continues op bits a) _ q_2.1 in
+      let q_4 = and_parts (false || is_whole_number a) _ q_3.1 in
+      let q_5 = and_parts (well_part context a) _ q_4.1 in
+      let c = came (λ m. option_and_then (applied op bits m) (value s b)) (value s a) n e in
+      let d = came (applied op bits c.from) (value s b) n c.gives in
+      pair-number at sign op bits a b c.from d.from n q.0 q_1.0 q_2.0 u.0 (numbers a c.from u.1.0 q_5.0 c.is) (numbers b d.from u.1.1 (and_parts (is_whole_number b) _ q_5.1).1 d.is) c.is d.is d.gives
+  comparand-number t n u h e = (numbers t n u h e).is
+
+  bare-number : (t : NumTree) (n : ℕ) → Declares names s x t → well_part context t ≡ true → value s t ≡ Some n → IsNumber x (lowered names (bare t)).code (lowered names (bare t)).ty n
+  bare-number (convert at sign bits a) n u h e =
+      let q = and_parts (is_width bits) _ h in
+      let c = came (fitted bits) (value s a) n e in
+      bare-number a n u (and_parts (is_whole_number a) _ q.1).1 (c.is ∙ ap Some (fitted-some bits c.from n c.gives).0)
+  bare-number t n u h e = (numbers t n u h e).is
+
   -- A number that is assigned: a conversion that C makes by itself stands for nothing.
   pub given-number : (t : NumTree) (n : ℕ) → Declares names s x t → well_part context t ≡ true → value s t ≡ Some n → (ty : CTy) × IsNumber x (given names t) ty n
   given-number (convert at sign bits a) n u h e =
       let q = and_parts (is_width bits) _ h in
       let c = came (fitted bits) (value s a) n e in
-      given-number a n u (and_parts (is_whole_number a) _ q.1).1 (c.is ∙ ap Some (fitted-some bits c.from n c.gives).0)
+      let f = fitted-some bits c.from n c.gives in
+      let it = bare-number a n u (and_parts (is_whole_number a) _ q.1).1 (c.is ∙ ap Some f.0) in
+      taken-number bits q.0 x (lowered names (bare a)).code (lowered names (bare a)).ty n it f.1
+  given-number (link at sign op bits joined a b) n u h e =
+      let w = (and_parts (is_width bits) _ h).0 in
+      let it = numbers (link at sign op bits joined a b) n u h e in
+      taken-number bits w x (lowered names (link at sign op bits joined a b)).code (calculated bits) n it.is (it.fitting bits w (grind (arith, nat_tests))).0
   given-number t n u h e = ((lowered names t).ty, (numbers t n u h e).is)

@@ -12,7 +12,8 @@ use Rattle.wf_ast.specs.OperatorForms.{is_joining, is_ordering, is_equal, order_
 use Rattle.wf_ast.proofs.ChainKinds.{operand_kinds, compares_numbers, compares_statuses}
 use Rattle.c_text.specs.CTree.{ExprTree, operation, Operands, no_operand}
 use Rattle.wf_exprs.specs.Names.{Names}
-use Rattle.wf_exprs.specs.Exprs.{with_operand, chained, compared, statuses_compared, lowered_cond, lowered_expr}
+use Rattle.wf_exprs.specs.Exprs.{with_operand, chained, statuses_compared, lowered_cond, comparand}
+use Rattle.wf_exprs.specs.Exprs as exprs
 use Rattle.wf_exprs.specs.Making.{c_op}
 use Rattle.wf_exprs.specs.Grown.{HasExpr}
 use Rattle.c_text.specs.declared.ids.CExprId.{CExprId}
@@ -81,7 +82,7 @@ module _ (names : Names) where
 
   -- Numbers.
   pub numbers_compared : (at : Place) (signs : List Place) (ty tya : Ty) (sort : OperatorKind) (a b : ValueTree) → is_ordering sort ≡ true → is_state tya ≡ false → is_tree_of tya a ≡ true
-      → compared (order_in sort) (lowered_expr names (num_in a)) (lowered_expr names (num_in b)) ≡ lowered_cond names (cond_in (chain_of at signs ty sort (a ∷ b ∷ [])))
+      → exprs.numbers_compared (order_in sort) (comparand names (num_in a)) (comparand names (num_in b)) ≡ lowered_cond names (cond_in (chain_of at signs ty sort (a ∷ b ∷ [])))
   numbers_compared at signs ty tya (ordering op) a b o h k = ap (λ t. lowered_cond names (cond_in t)) (sym (compares_numbers at (first_sign at signs) op a b tya h k))
   numbers_compared at signs ty tya (joining both) a b o h k = absurd (cc o)
   numbers_compared at signs ty tya (arithmetic op) a b o h k = absurd (cc o)

@@ -1,48 +1,30 @@
--- What no `as` makes is given as it is.
+-- A chain that gives a number is a link of its width.
 use Rattle.std.proofs.Common.{◌≡◌, ℕ, Bool, true, false, List, [], ◌∷◌, map, refl}
 use Rattle.wf_text.specs.declared.place.Place.{Place}
 use Rattle.wf_ast.specs.declared.numbers.ExprId.{ExprId}
 use Rattle.wf_ast.specs.declared.types.Ty.{Ty}
 use Rattle.wf_ast.specs.declared.typed_nodes.TypedNodes.{TypedNodes}
-use Rattle.wf_ast.specs.TypedTree.{Arith, Order, less, at_most, equal, differs, at_least, greater, NumTree, link, ValueTree, numeric, logical, state, elements, io, lost}
-use Rattle.wf_ast.specs.TypedTrees.{OperatorKind, arithmetic, ordering, joining, num_in, num_chain, chain_of, comparison, first_sign, tree_of}
-use Rattle.wf_ast.specs.TypedInvariant.{chain_fits}
-use Rattle.wf_exprs.specs.Names.{Names}
-use Rattle.wf_exprs.specs.Exprs.{given, lowered_expr}
+use Rattle.wf_ast.specs.TypedTree.{Arith, NumTree, link, ValueTree}
+use Rattle.wf_ast.specs.TypedTrees.{OperatorKind, arithmetic, ordering, joining, num_in, num_type, num_chain, chain_of, tree_of}
+use Rattle.wf_ast.specs.TypedInvariant.{chain_fits, is_numeric}
+use Rattle.wf_ast.proofs.ChainKinds.{junction_gives_condition, comparison_gives_condition}
+use Rattle.wf_ast.proofs.TypeKinds.{number_no_condition}
 
-abbrev pub IsGivenAsIs : NumTree → Type 0
-IsGivenAsIs t = (names : Names) → given names t ≡ lowered_expr names t
+-- What holds of every link of a width.
+abbrev pub OfLinks : (NumTree → Type 0) → (bits : ℕ) → Type 0
+OfLinks P bits = (at sign : Place) (op : Arith) (joined : Bool) (a b : NumTree) → P (link at sign op bits joined a b)
 
-link_as_is : (at sign : Place) (op : Arith) (bits : ℕ) (joined : Bool) (a b : NumTree) (ts : List ValueTree) (signs : List Place) → IsGivenAsIs (num_chain at op bits true (link at sign op bits joined a b) ts signs)
-link_as_is at sign op bits joined a b [] signs names = refl
-link_as_is at sign op bits joined a b (t ∷ ts) [] names = link_as_is at at op bits true (link at sign op bits joined a b) (num_in t) ts [] names
-link_as_is at sign op bits joined a b (t ∷ ts) (next ∷ signs) names = link_as_is at next op bits true (link at sign op bits joined a b) (num_in t) ts signs names
+link_on : (P : NumTree → Type 0) (bits : ℕ) (at sign : Place) (op : Arith) (joined : Bool) (a b : NumTree) (ts : List ValueTree) (signs : List Place) → OfLinks P bits
+    → P (num_chain at op bits true (link at sign op bits joined a b) ts signs)
+link_on P bits at sign op joined a b [] signs h = h at sign op joined a b
+link_on P bits at sign op joined a b (t ∷ ts) [] h = link_on P bits at at op true (link at sign op bits joined a b) (num_in t) ts [] h
+link_on P bits at sign op joined a b (t ∷ ts) (next ∷ signs) h = link_on P bits at next op true (link at sign op bits joined a b) (num_in t) ts signs h
 
-compared_as_is : (at sign : Place) (op : Order) (a b : ValueTree) → IsGivenAsIs (num_in (comparison at sign op a b))
-compared_as_is at sign equal (numeric t) b names = refl
-compared_as_is at sign equal (logical t) b names = refl
-compared_as_is at sign equal (state t) b names = refl
-compared_as_is at sign equal (elements t) b names = refl
-compared_as_is at sign equal (io p t) b names = refl
-compared_as_is at sign equal lost b names = refl
-compared_as_is at sign differs (numeric t) b names = refl
-compared_as_is at sign differs (logical t) b names = refl
-compared_as_is at sign differs (state t) b names = refl
-compared_as_is at sign differs (elements t) b names = refl
-compared_as_is at sign differs (io p t) b names = refl
-compared_as_is at sign differs lost b names = refl
-compared_as_is at sign less a b names = refl
-compared_as_is at sign at_most a b names = refl
-compared_as_is at sign at_least a b names = refl
-compared_as_is at sign greater a b names = refl
-
-pub chain_as_is : (nodes : TypedNodes) (at : Place) (signs : List Place) (ty : Ty) (sort : OperatorKind) (es : List ExprId) → chain_fits nodes sort es ty ≡ true → IsGivenAsIs (num_in (chain_of at signs ty sort (map (tree_of nodes) es)))
-chain_as_is nodes at signs ty (arithmetic op) [] f names = absurd (cc f)
-chain_as_is nodes at signs ty (arithmetic op) (a ∷ []) f names = absurd (cc f)
-chain_as_is nodes at [] ty (arithmetic op) (a ∷ b ∷ es) f names = link_as_is at at op _ false _ _ (map (tree_of nodes) es) [] names
-chain_as_is nodes at (sign ∷ signs) ty (arithmetic op) (a ∷ b ∷ es) f names = link_as_is at sign op _ false _ _ (map (tree_of nodes) es) signs names
-chain_as_is nodes at signs ty (joining both) [] f names = absurd (cc f)
-chain_as_is nodes at signs ty (joining both) (a ∷ es) f names = refl
-chain_as_is nodes at signs ty (ordering op) [] f names = absurd (cc f)
-chain_as_is nodes at signs ty (ordering op) (a ∷ []) f names = absurd (cc f)
-chain_as_is nodes at signs ty (ordering op) (a ∷ b ∷ es) f names = compared_as_is at (first_sign at signs) op (tree_of nodes a) (tree_of nodes b) names
+pub chain_is_link : (P : NumTree → Type 0) (nodes : TypedNodes) (at : Place) (signs : List Place) (ty : Ty) (sort : OperatorKind) (es : List ExprId) → is_numeric ty ≡ true → chain_fits nodes sort es ty ≡ true
+    → OfLinks P (num_type ty).bits → P (num_in (chain_of at signs ty sort (map (tree_of nodes) es)))
+chain_is_link P nodes at signs ty (arithmetic op) [] n f h = absurd (cc f)
+chain_is_link P nodes at signs ty (arithmetic op) (a ∷ []) n f h = absurd (cc f)
+chain_is_link P nodes at [] ty (arithmetic op) (a ∷ b ∷ es) n f h = link_on P _ at at op false _ _ (map (tree_of nodes) es) [] h
+chain_is_link P nodes at (sign ∷ signs) ty (arithmetic op) (a ∷ b ∷ es) n f h = link_on P _ at sign op false _ _ (map (tree_of nodes) es) signs h
+chain_is_link P nodes at signs ty (joining both) es n f h = absurd (number_no_condition ty n (junction_gives_condition nodes both es ty f))
+chain_is_link P nodes at signs ty (ordering op) es n f h = absurd (number_no_condition ty n (comparison_gives_condition nodes op es ty f))

@@ -1,4 +1,5 @@
 pub mod ChainLaws
+pub mod ComparandLaws
 pub mod ConditionLaws
 pub mod GivenLaws
 pub mod ItemLaws

@@ -1,5 +1,5 @@
 -- What becomes of the trees of nodes in C.
-use Rattle.std.specs.Prelude.{◌&&◌, ℕ, Bool, true, false, if◌then◌else◌, List, [], ◌∷◌, nat_eq, ⊤}
+use Rattle.std.specs.Prelude.{◌&&◌, ℕ, Bool, true, false, if◌then◌else◌, List, [], ◌∷◌, Option, Some, None, nat_eq, ⊤}
 use Rattle.wf_base.specs.declared.marks.Mark.TheVariants.{Pure}
 use Rattle.wf_base.specs.declared.base_methods.BaseSig.{BaseSig}
 use Rattle.wf_base.specs.declared.base_methods.Gives.{Gives}
@@ -8,7 +8,7 @@ use Rattle.wf_base.specs.BaseTable.{row_of}
 use Rattle.wf_ast.specs.WellTyped.{same_mark}
 use Rattle.wf_ast.specs.declared.types.Ty.{Ty}
 use Rattle.wf_ast.specs.declared.types.Ty.TheVariants as types
-use Rattle.wf_ast.specs.TypedTree.{Arith, plus, times, bits_and, bits_or, bits_xor, NumTree, CondTree, ValueTree, numeric, logical, state}
+use Rattle.wf_ast.specs.TypedTree.{Arith, plus, times, bits_and, bits_or, bits_xor, mod_minus, NumTree, CondTree, ValueTree, numeric, logical, state}
 use Rattle.wf_ast.specs.TypedTrees.{OperatorKind, arithmetic, ordering, joining, num_in}
 use Rattle.c_text.specs.declared.ids.CExprId.{CExprId}
 use Rattle.c_text.specs.CNodes.{Nodes}
@@ -40,6 +40,20 @@ abbrev pub repeats : OperatorKind → Bool
 repeats (arithmetic op) = repeats_arith op
 repeats (joining both) = true
 repeats (ordering op) = false
+
+abbrev pub is_xor_arith : Arith → Bool
+is_xor_arith bits_xor = true
+is_xor_arith op = false
+
+abbrev pub is_xor : OperatorKind → Bool
+is_xor (arithmetic op) = is_xor_arith op
+is_xor sort = false
+
+-- Whether two operands are the complement of the left one or of the right one, by which of them is all ones.
+abbrev pub complement_by : OperatorKind → (one other : Bool) → Option Bool
+complement_by (arithmetic bits_xor) one other = if other then Some true else if one then Some false else None
+complement_by (arithmetic mod_minus) one other = if one then Some false else None
+complement_by sort one other = None
 
 -- A chain on from what stands left of it, operand by operand.
 abbrev pub chain_on : Names → OperatorKind → (bits : ℕ) → Rated → List NumTree → Rated

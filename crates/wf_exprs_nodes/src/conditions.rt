@@ -12,22 +12,23 @@ ghost use Rattle.c_text.specs.CNodes.{expr_of};
 ghost use Rattle.c_text.specs.CTree as c;
 ghost use Rattle.c_text.specs.declared.kinds.COp.TheVariants.{Ne};
 ghost use Rattle.c_text.specs.declared.kinds.CUnary.TheVariants.{Not};
-ghost use Rattle.wf_exprs.specs.Exprs.{category_code, compared as compared_code, constants_compared as constants_compared_code, held_compared as held_compared_code, lowered_cond, lowered_expr, lowered_status, same_code, statuses_compared as statuses_compared_code};
+ghost use Rattle.wf_exprs.specs.Exprs.{category_code, comparand as comparand_of, compared as compared_code, constants_compared as constants_compared_code, held_compared as held_compared_code, lowered_cond, lowered_status, numbers_compared as numbers_compared_code, same_code, statuses_compared as statuses_compared_code};
 ghost use Rattle.wf_exprs.specs.Grown.{Grows, HasExpr};
+ghost use Rattle.wf_exprs.specs.Making.{rated_in};
 ghost use Rattle.wf_exprs.specs.Scopes.{path_of};
 ghost use Rattle.wf_exprs.specs.Words.{num, two as two_trees};
 ghost use Rattle.wf_exprs_nodes.specs.Trees.{answers_truth};
 
 use crate::chains::{joins, operation};
-use crate::numbers::number;
+use crate::comparands::comparand;
 use crate::statuses::{constant_number, is_constant, is_of_category, status};
 use c_text::{CExprId, CList, COp, Unit};
 use std::alloc::Global;
 use wf_ast::{Expr, ExprId, Op, Ty, Typed, io_arg};
 use wf_base::BaseSig;
 use wf_exprs::nodes::{is_held, is_literal, negated, two};
-use wf_exprs::rated::op_of;
-use wf_exprs::{BodyNames, Path};
+use wf_exprs::rated::{beside, op_of};
+use wf_exprs::{BodyNames, Path, Rated};
 use wf_text::{Category, NoMemory};
 
 /// A condition.
@@ -203,11 +204,30 @@ fn numbers_compared(
     requires left { IsTrue (is_number_at scope.now.nodes a) }
     requires right { IsTrue (is_number_at scope.now.nodes b) }
     ensures grows { Grows u.old u.new }
-    ensures made { IfOk result (λ it. HasExpr u.new it.0 (compared_code (order_in (operator_kind op)) (lowered_expr scope.now.names (node_number scope.now.nodes a)) (lowered_expr scope.now.names (node_number scope.now.nodes b)))) }
+    ensures made { IfOk result (λ it. HasExpr u.new it.0 (numbers_compared_code (order_in (operator_kind op)) (comparand_of scope.now.names (node_number scope.now.nodes a)) (comparand_of scope.now.names (node_number scope.now.nodes b)))) }
 {
-    let left = number(scope, u, a)?;
-    let right = number(scope, u, b)?;
-    compared(scope.alloc(), u, op, left.code, right.code)
+    let left = comparand(scope, u, a)?;
+    let right = comparand(scope, u, b)?;
+    side_by_side(scope.alloc(), u, op, left, right)
+}
+
+// Two numbers, of which C converts the one of the narrower type.
+fn side_by_side(
+    alloc: Global,
+    u: &mut Unit,
+    op: Op,
+    a: Rated,
+    b: Rated,
+) -> Result<CExprId, NoMemory>
+    requires ordering { IsTrue (is_ordering (operator_kind op)) }
+    requires left { a.code.0 < length u.old.exprs }
+    requires right { b.code.0 < length u.old.exprs }
+    ensures grows { Grows u.old u.new }
+    ensures made { IfOk result (λ it. HasExpr u.new it.0 (numbers_compared_code (order_in (operator_kind op)) (rated_in u.old a) (rated_in u.old b))) }
+{
+    let left = beside(u, a, b.ty)?;
+    let right = beside(u, b, a.ty)?;
+    compared(alloc, u, op, left.code, right.code)
 }
 
 fn compared(

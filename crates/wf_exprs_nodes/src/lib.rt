@@ -3,6 +3,7 @@
 
 pub mod asking;
 pub mod chains;
+pub mod comparands;
 pub mod conditions;
 pub mod helpers;
 pub mod marks;

@@ -8,10 +8,9 @@ ghost use Rattle.wf_ast.specs.TypedTrees.{answer_of, chain_of, end_in, first_sig
 ghost use Rattle.wf_ast.specs.TypedInvariant.{has_kind, is_expr};
 ghost use Rattle.wf_ast.specs.NodeKinds.{is_number_at, is_slice_at, end_fits, node_number, node_slice};
 ghost use Rattle.wf_ast.specs.OperatorForms.{is_arithmetic};
-ghost use Rattle.wf_exprs.specs.Exprs.{given as given_code, is_array, literal_type as type_of_literal, lowered, lowered_end, lowered_expr, lowered_slice, path_code, path_pair as pair_of_path, rated};
+ghost use Rattle.wf_exprs.specs.Exprs.{bare, given as given_code, is_array, literal_type as type_of_literal, lowered, lowered_end, lowered_expr, lowered_slice, path_code, path_pair as pair_of_path, rated, taken as taken_code};
 ghost use Rattle.wf_exprs.specs.Grown.{Grows, HasExpr};
 ghost use Rattle.wf_exprs.specs.Making.{HasEnd, HasPair, HasRated};
-ghost use Rattle.wf_exprs.specs.Names.{Names};
 ghost use Rattle.wf_exprs.specs.Scopes.{path_of};
 ghost use Rattle.wf_exprs.specs.Words.{literal as literal_of, num};
 ghost use Rattle.wf_num.specs.declared.c_arithmetic.CTy.TheVariants.{Int};
@@ -24,7 +23,7 @@ use c_text::{CExpr, CExprId, CList, Unit};
 use wf_ast::{Expr, ExprId, Op, Ty, Typed, io_arg};
 use wf_base::{BaseSig, Width};
 use wf_exprs::nodes::{element, literal, put};
-use wf_exprs::rated::{calculated, converted, literal_type};
+use wf_exprs::rated::{calculated, converted, literal_type, taken};
 use wf_exprs::{BodyNames, Pair, Path, Rated};
 use wf_num::CTy;
 use wf_text::NoMemory;
@@ -68,7 +67,7 @@ pub(crate) fn constant(u: &mut Unit, n: u64) -> Result<Rated, NoMemory>
 }
 
 // The width of a number's type.
-fn width_of(t: &Typed, e: ExprId) -> Width
+pub(crate) fn width_of(t: &Typed, e: ExprId) -> Width
     requires { IsTrue (is_number_at t.now e) }
     ensures { bits_of result ≡ (num_type (type_of_node t.now e.0)).bits }
 {
@@ -417,11 +416,11 @@ pub fn lower_slice(scope: &BodyNames, u: &mut Unit, e: ExprId) -> Result<Pair, N
     Ok(cells.pair)
 }
 
-// What is converted, however often.
-fn unconverted(t: &Typed, e: ExprId) -> ExprId
+/// What is converted, however often.
+pub(crate) fn unconverted(t: &Typed, e: ExprId) -> ExprId
     requires { IsTrue (is_number_at t.now e) }
     ensures node { IsTrue (is_number_at t.now result) }
-    ensures given { (names : Names) → given_code names (node_number t.now e) ≡ lowered_expr names (node_number t.now result) }
+    ensures bare { node_number t.now result ≡ bare (node_number t.now e) }
 {
     let expr = t.expr(e);
     match t.constant(e) {
@@ -437,12 +436,43 @@ fn unconverted(t: &Typed, e: ExprId) -> ExprId
     }
 }
 
+// A number without its type.
+fn code(scope: &BodyNames, u: &mut Unit, e: ExprId) -> Result<CExprId, NoMemory>
+    requires { IsTrue (is_number_at scope.now.nodes e) }
+    ensures grows { Grows u.old u.new }
+    ensures made { IfOk result (λ it. HasExpr u.new it.0 (lowered_expr scope.now.names (node_number scope.now.nodes e))) }
+{
+    let a = number(scope, u, e)?;
+    Ok(a.code)
+}
+
+// A number that C converts to this width.
+fn code_taken(scope: &BodyNames, u: &mut Unit, width: Width, e: ExprId) -> Result<CExprId, NoMemory>
+    requires { IsTrue (is_number_at scope.now.nodes e) }
+    ensures grows { Grows u.old u.new }
+    ensures made { IfOk result (λ it. HasExpr u.new it.0 (taken_code (bits_of width) (lowered_expr scope.now.names (node_number scope.now.nodes e)))) }
+{
+    let a = number(scope, u, e)?;
+    taken(u, width, a.code)
+}
+
 /// A number that is assigned, passed or returned: what takes it converts it to its type.
 pub fn given(scope: &BodyNames, u: &mut Unit, e: ExprId) -> Result<CExprId, NoMemory>
     requires { IsTrue (is_number_at scope.now.nodes e) }
     ensures grows { Grows u.old u.new }
     ensures made { IfOk result (λ it. HasExpr u.new it.0 (given_code scope.now.names (node_number scope.now.nodes e))) }
 {
-    let a = number(scope, u, unconverted(scope.typed(), e))?;
-    Ok(a.code)
+    let t = scope.typed();
+    let expr = t.expr(e);
+    match t.constant(e) {
+        Some(_) => code(scope, u, e),
+        None => match expr {
+            Expr::Convert { of, to } => code_taken(scope, u, *to, unconverted(t, *of)),
+            Expr::Chain { .. } => code_taken(scope, u, width_of(t, e), e),
+            Expr::Number(_) | Expr::Const(_) | Expr::Status(_) => code(scope, u, e),
+            Expr::Truth(_) | Expr::Local(_) | Expr::Field(_) => code(scope, u, e),
+            Expr::Arg(_) | Expr::Index { .. } | Expr::Cut { .. } => code(scope, u, e),
+            Expr::Not(_) | Expr::Base { .. } => code(scope, u, e),
+        },
+    }
 }

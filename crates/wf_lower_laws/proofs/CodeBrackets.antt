@@ -23,7 +23,7 @@ use Rattle.c_text.specs.CTree.{ExprTree, Code, finish, empty, leave, case_label,
 use Rattle.c_text.specs.CTree as c
 use Rattle.wf_exprs.specs.Names.{Names, again_label, behind_label}
 use Rattle.wf_exprs.specs.Words.{num, two, args}
-use Rattle.wf_exprs.specs.Exprs.{Pair, given, lowered_slice, lowered_status, lowered_cond, status_constant, begins_with, io_code, place_code, end_code, there}
+use Rattle.wf_exprs.specs.Exprs.{Pair, taken, bare, lowered_expr, given, lowered_slice, lowered_status, lowered_cond, status_constant, begins_with, io_code, place_code, end_code, there}
 use Rattle.wf_lower_stmts.specs.Forms.{Form, status_local, held_local, size_local, count_local, is_io, is_kept, stays, holds_something, counts_bytes, keeps, place_in, end_of, when, put, get, save_locals, restore_locals, save_count, restore_count, save_started, restore_started, give, suspend, resume_here}
 use Rattle.wf_lower_stmts.specs.Lower.{lower, continues, again_here, other_kind, returns, ending, ending_of, has_result, tail_of, top}
 use Rattle.wf_lower_stmts.specs.Statements.{next_byte, step_on, is_big_endian, with_byte, slice_bits, bytes_for, answer_local, is_wanted, put_into, set_slice, set_value, take_byte, take_bytes, written_byte, begun_call, awoken_call, lower_written, value_codes, values_codes, receiver_code, is_passed, call_into, hand_on, put_result, handed_call, plain_call, give_status, give_value, begun, awoken, lower_point, lower_plain, lower_simple}
@@ -154,8 +154,18 @@ module _ (d : ℕ) where
   abbrev k_max : ℕ
   k_max = 5 * d + 12
 
+  -- what is given opens two more
+  abbrev g_max : ℕ
+  g_max = 5 * d + 7
+
   deep : (e : ExprTree) → ExprBy e_max e → ExprBy k_max e
   deep e h = by_more e_max k_max e (omega arith) h
+
+  deep_given : (e : ExprTree) → ExprBy g_max e → ExprBy k_max e
+  deep_given e h = by_more g_max k_max e (omega arith) h
+
+  two_more : (e : ExprTree) → ExprBy e_max e → ExprBy g_max e
+  two_more e h = by_more e_max g_max e (omega arith) h
 
   intos_by : (names : Names) (t : Target) (v : ExprTree) (rest : Code) → target_within d t ≡ true → ExprBy k_max v → CodeBy k_max rest → CodeBy k_max (put_into names t v rest)
   intos_by names (to_number at of path) v rest w h i = code_assign k_max _ v rest (by_path names k_max path) h i
@@ -181,7 +191,7 @@ module _ (d : ℕ) where
   slices_by names to_nothing it rest h i = i
 
   values_by : (names : Names) (t : Target) (v : ValueTree) (rest : Code) → target_within d t ≡ true → value_within d v ≡ true → CodeBy k_max rest → CodeBy k_max (set_value names t v rest)
-  values_by names t (numeric v) rest w u i = intos_by names t (given names v) rest w (deep _ (given_by names d v u)) i
+  values_by names t (numeric v) rest w u i = intos_by names t (given names v) rest w (deep_given _ (given_by names d v u)) i
   values_by names t (logical v) rest w u i = intos_by names t (lowered_cond names v) rest w (deep _ (cond_by names d v u)) i
   values_by names t (state v) rest w u i = intos_by names t (lowered_status names v) rest w (by_status names k_max v) i
   values_by names t (elements v) rest w u i = slices_by names t (lowered_slice names v) rest (slice_by names d v u) i
@@ -227,8 +237,8 @@ module _ (d : ℕ) where
   begun_calls_by names (take_number ReadU32Le) rest w i = held_by rest i
   begun_calls_by names (take_number ReadU64Be) rest w i = held_by rest i
   begun_calls_by names (take_number ReadU64Le) rest w i = held_by rest i
-  begun_calls_by names (skip n) rest w i = code_assign k_max _ _ _ (easy k_max _ (λ m. tt {0})) (deep _ (given_by names d n w)) i
-  begun_calls_by names (write b) rest w i = code_if k_max (stays b) _ _ i (code_assign k_max _ _ _ (easy k_max _ (λ m. tt {0})) (deep _ (given_by names d b w)) i)
+  begun_calls_by names (skip n) rest w i = code_assign k_max _ _ _ (easy k_max _ (λ m. tt {0})) (deep_given _ (given_by names d n w)) i
+  begun_calls_by names (write b) rest w i = code_if k_max (stays b) _ _ i (code_assign k_max _ _ _ (easy k_max _ (λ m. tt {0})) (deep_given _ (given_by names d b w)) i)
 
   taken_by : (f : Form) (j : ℕ) (t : Target) (a : ℕ) (form : ReadForm) (n : ℕ) (rest : Code) → target_within d t ≡ true → CodeBy k_max rest
       → CodeBy k_max (take_bytes f.names a form (bytes_of (read_width form)) (when (two Lt count_local (num (bytes_of (read_width form)))) (suspend f j (status_constant n) finish) (put_into f.names t held_local rest)))
@@ -243,12 +253,23 @@ module _ (d : ℕ) where
   there_by : (k : ℕ) (names : Names) (a : ℕ) → 1 ≤ k → ExprBy k (there names a)
   there_by k names a l = by_two 0 k Sub _ _ l (easy 0 _ (λ m. tt {0})) (easy 0 _ (λ m. tt {0}))
 
+  bare_stays_by : (k bits : ℕ) (names : Names) (b : NumTree) → stays b ≡ true → ExprBy k (taken bits (lowered_expr names (bare b)))
+  bare_stays_by k bits names (number at n) h = by_num k n
+  bare_stays_by k bits names (read at of (local n)) h = easy k _ (λ m. tt {0})
+  bare_stays_by k bits names (read at of (field n)) h = absurd (cc h)
+  bare_stays_by k bits names (read at of (arg n)) h = absurd (cc h)
+  bare_stays_by k bits names (convert at sign own_bits a) h = bare_stays_by k bits names a h
+  bare_stays_by k bits names (element at of cells index) h = absurd (cc h)
+  bare_stays_by k bits names (link at sign op own_bits joined a b) h = absurd (cc h)
+  bare_stays_by k bits names (length_of at cells) h = absurd (cc h)
+  bare_stays_by k bits names (asked at question a) h = absurd (cc h)
+
   stays_by : (k : ℕ) (names : Names) (b : NumTree) → stays b ≡ true → ExprBy k (given names b)
   stays_by k names (number at n) h = by_num k n
   stays_by k names (read at of (local n)) h = easy k _ (λ m. tt {0})
   stays_by k names (read at of (field n)) h = absurd (cc h)
   stays_by k names (read at of (arg n)) h = absurd (cc h)
-  stays_by k names (convert at sign bits a) h = stays_by k names a h
+  stays_by k names (convert at sign bits a) h = bare_stays_by k bits names a h
   stays_by k names (element at of cells index) h = absurd (cc h)
   stays_by k names (link at sign op bits joined a b) h = absurd (cc h)
   stays_by k names (length_of at cells) h = absurd (cc h)
@@ -302,7 +323,7 @@ module _ (d : ℕ) where
   writtens_by : (names : Names) (t : Target) (w : Written) (rest : Code) → target_within d t ≡ true → written_within d w ≡ true → CodeBy k_max rest → CodeBy k_max (lower_written names t w rest)
   writtens_by names t (skip_fast a actual worst) rest w u i = step_by names a _ rest (one_more _ (num_by names d actual u)) i
   writtens_by names t (write_fast a b) rest w u i =
-      code_assign k_max _ _ _ (by_more 1 k_max _ (omega arith) (next_by names a)) (deep _ (given_by names d b u)) (step_by names a (num 1) rest (by_num (e_max + 1) 1) i)
+      code_assign k_max _ _ _ (by_more 1 k_max _ (omega arith) (next_by names a)) (deep_given _ (given_by names d b u)) (step_by names a (num 1) rest (by_num (e_max + 1) 1) i)
   writtens_by names t (copy_to_writer a s) rest w u i =
       let it = slice_by names d s u in
       size_by _ _ _ (one_more _ it.1) (there_by (e_max + 1) names a (omega arith))
@@ -315,29 +336,29 @@ module _ (d : ℕ) where
       size_by _ _ _ (one_more _ one.1) (by_converted e_max (e_max + 1) 64 (lowered_slice names s).length (omega arith) (omega arith) other.1)
       (move_by (slice_bits to) _ _ _ (one_more _ one.0) (one_more _ other.0) (intos_by names t size_local rest w (easy k_max _ (λ m. tt {0})) i))
 
-  codes_by : (names : Names) (v : ValueTree) → value_within d v ≡ true → EachBy e_max (value_codes names v)
+  codes_by : (names : Names) (v : ValueTree) → value_within d v ≡ true → EachBy g_max (value_codes names v)
   codes_by names (numeric t) u = (given_by names d t u, tt)
-  codes_by names (logical t) u = (cond_by names d t u, tt)
-  codes_by names (state t) u = (by_status names e_max t, tt)
-  codes_by names (elements t) u = let it = slice_by names d t u in (it.0, (it.1, tt))
-  codes_by names (io at a) u = (easy e_max _ (λ m. tt {0}), tt)
+  codes_by names (logical t) u = (two_more _ (cond_by names d t u), tt)
+  codes_by names (state t) u = (by_status names g_max t, tt)
+  codes_by names (elements t) u = let it = slice_by names d t u in (two_more _ it.0, (two_more _ it.1, tt))
+  codes_by names (io at a) u = (easy g_max _ (λ m. tt {0}), tt)
   codes_by names lost u = tt
 
-  all_codes_by : (names : Names) (vs : List ValueTree) → list_all (value_within d) vs ≡ true → EachBy e_max (values_codes names vs)
+  all_codes_by : (names : Names) (vs : List ValueTree) → list_all (value_within d) vs ≡ true → EachBy g_max (values_codes names vs)
   all_codes_by names [] u = tt
   all_codes_by names (v ∷ vs) u =
       let p = both_true (value_within d v) (list_all (value_within d) vs) u in
-      each_both e_max (value_codes names v) (values_codes names vs) (codes_by names v p.0) (all_codes_by names vs p.1)
+      each_both g_max (value_codes names v) (values_codes names vs) (codes_by names v p.0) (all_codes_by names vs p.1)
 
-  receiver_by : (names : Names) (called : Called) → ExprBy e_max (receiver_code names called)
-  receiver_by names (own m) = easy e_max _ (λ m. tt {0})
-  receiver_by names (sub x m) = by_unary 0 e_max Address _ (omega arith) (easy 0 _ (λ m. tt {0}))
+  receiver_by : (names : Names) (called : Called) → ExprBy g_max (receiver_code names called)
+  receiver_by names (own m) = easy g_max _ (λ m. tt {0})
+  receiver_by names (sub x m) = by_unary 0 g_max Address _ (omega arith) (easy 0 _ (λ m. tt {0}))
 
   calls_by : (f : Form) (into : Option ExprTree) (called : Called) (callee : MethodTree) (given_args : List ValueTree) (rest : Code) → OptionBy k_max into → list_all (value_within d) given_args ≡ true → CodeBy k_max rest
       → CodeBy k_max (call_into f into called callee given_args rest)
   calls_by f into called callee given_args rest h u i =
       puts_by k_max f.names (is_passed given_args) 0 f.method.args _
-      (code_call e_max k_max into _ (receiver_code f.names called ∷ values_codes f.names given_args) _ (omega arith) h (receiver_by f.names called, all_codes_by f.names given_args u)
+      (code_call g_max k_max into _ (receiver_code f.names called ∷ values_codes f.names given_args) _ (omega arith) h (receiver_by f.names called, all_codes_by f.names given_args u)
       (gets_by k_max f.names (is_passed given_args) 0 f.method.args rest (omega arith) i))
 
   hands_by : (f : Form) (j : ℕ) (rest : Code) → CodeBy k_max rest → CodeBy k_max (hand_on f j rest)
@@ -400,7 +421,7 @@ module _ (d : ℕ) where
 
   given_values_by : (f : Form) (v : Option ValueTree) (rest : Code) → simple_within d (give_back v) ≡ true → CodeBy k_max rest → CodeBy k_max (give_value f v rest)
   given_values_by f None rest u i = gives_by k_max f None rest tt i
-  given_values_by f (Some (numeric t)) rest u i = gives_by k_max f (Some (given f.names t)) rest (deep _ (given_by f.names d t u)) i
+  given_values_by f (Some (numeric t)) rest u i = gives_by k_max f (Some (given f.names t)) rest (deep_given _ (given_by f.names d t u)) i
   given_values_by f (Some (logical t)) rest u i = gives_by k_max f (Some (lowered_cond f.names t)) rest (deep _ (cond_by f.names d t u)) i
   given_values_by f (Some (state t)) rest u i = statuses_by f t rest i
   given_values_by f (Some (elements t)) rest u i = i

@@ -4,6 +4,9 @@ use Rattle.std.specs.Prelude.{if◌then◌else◌, nat_le, nat_lt}
 use Rattle.std.proofs.lemmas.Bool.Decides.{nat_tests}
 use Rattle.std.proofs.lemmas.Slice.Eq.{bytes_eq-Decides}
 use Rattle.wf_text.specs.declared.place.Place.{Place}
+use Rattle.wf_num.specs.declared.c_arithmetic.CTy.{CTy}
+use Rattle.wf_num.specs.declared.c_arithmetic.CTy.TheVariants.{Int}
+use Rattle.wf_num.specs.CArithmetic.{c_width}
 use Rattle.wf_base.specs.declared.base_methods.PeekForm.{PeekForm}
 use Rattle.wf_base.specs.declared.base_methods.PeekForm.TheVariants.{PeekU8, PeekU16Le, PeekU32Le}
 use Rattle.wf_text.specs.declared.categories.Category.{Category}
@@ -22,7 +25,7 @@ use Rattle.c_text.specs.CTree as c
 use Rattle.wf_exprs.specs.Names.{Names}
 use Rattle.wf_exprs.specs.Words.{num, uint_of, two}
 use Rattle.wf_ast.specs.Value.{same_truth}
-use Rattle.wf_exprs.specs.Exprs.{calculated, rank, Rated, rated, recast, firm, balanced, op_of, with_operand, same_op, chained, saturated, cut_off, factor, linked, converted, path_code, Pair, path_pair, is_array, moved, part_pointer, part_length, place_code, bytes_code, peeked, raised, peek_code, asked_code, lowered, lowered_slice, lowered_end, given, status_constant, lowered_status, same_code, is_literal, is_held, compared, is_constant, constant_number, constants_compared, held_compared, statuses_compared, begins_with, category_code, lowered_cond}
+use Rattle.wf_exprs.specs.Exprs.{calculated, rank, Rated, rated, recast, firm, balanced, op_of, with_operand, same_op, chained, saturated, cut_off, taken, is_filled, factor, linked, converted, path_code, Pair, path_pair, is_array, moved, part_pointer, part_length, place_code, bytes_code, peeked, raised, peek_code, asked_code, lowered, lowered_slice, lowered_end, bare, is_ones, is_short_ones, is_converted, apart, with_zero, xor_operand, pair_compared, comparand, beside, given, status_constant, lowered_status, same_code, is_literal, is_held, compared, is_constant, constant_number, constants_compared, held_compared, statuses_compared, begins_with, category_code, lowered_cond}
 use Rattle.wf_lower_laws.specs.BracketLaw.{repeats, goes_on, cond_goes_on, num_within, slice_within, end_within, cond_within}
 use Rattle.wf_lower_laws.proofs.Apart.{same_number}
 use Rattle.wf_lower_laws.proofs.OpenBrackets.{ExprOpens, OperandsOpen}
@@ -84,6 +87,9 @@ by_balanced d k bits a b l h = by_if k (nat_eq (rank b.ty) (rank (calculated bit
 
 by_cut_off : (d k bits : ℕ) (x : ExprTree) → d + 2 ≤ k → ExprBy d x → ExprBy k (cut_off bits x)
 by_cut_off d k bits x l h = by_if k (nat_le bits 16) (cast (uint_of bits) x) x (by_cast d k (uint_of bits) x (omega (arith, l)) (omega (arith, l)) h) (by_more d k x (omega (arith, l)) h)
+
+by_taken : (d k bits : ℕ) (x : ExprTree) → d + 2 ≤ k → ExprBy d x → ExprBy k (taken bits x)
+by_taken d k bits x l h = by_if k (is_filled x) (cut_off bits x) x (by_cut_off d k bits x l h) (by_more d k x (omega (arith, l)) h)
 
 by_factor : (d k bits : ℕ) (a b : Rated) → d + 2 ≤ k → ExprBy d a.code → ExprBy k (factor bits a b)
 by_factor d k bits a b l h = by_if k (nat_eq bits 16) (recast 32 a.code) (balanced bits a b) (by_recast d k 32 a.code (omega (arith, l)) (omega (arith, l)) h) (by_balanced d k bits a b l h)
@@ -182,8 +188,10 @@ by_linked d k mod_minus bits joined a b l h j = by_cut_off (d + 3) k bits _ (ome
 by_linked d k mod_times bits joined a b l h j =
     by_cut_off (d + 3) k bits _ (omega (arith, l)) (by_two (d + 2) (d + 3) Mul (factor bits a b) b.code (omega arith) (by_factor d (d + 2) bits a b (omega arith) h) (by_more d (d + 2) b.code (omega arith) j))
 by_linked d k mod_shift_left bits joined a b l h j = by_cut_off (d + 3) k bits _ (omega (arith, l)) (by_firm_two d (d + 3) bits Shl a b (omega arith) h j)
-by_linked d k sat_plus bits joined a b l h j = by_saturated d k true bits a.code b.code (omega (arith, l)) h j
-by_linked d k sat_minus bits joined a b l h j = by_saturated d k false bits a.code b.code (omega (arith, l)) h j
+by_linked d k sat_plus bits joined a b l h j =
+    by_saturated (d + 2) k true bits (taken bits a.code) (taken bits b.code) (omega (arith, l)) (by_taken d (d + 2) bits a.code (omega arith) h) (by_taken d (d + 2) bits b.code (omega arith) j)
+by_linked d k sat_minus bits joined a b l h j =
+    by_saturated (d + 2) k false bits (taken bits a.code) (taken bits b.code) (omega (arith, l)) (by_taken d (d + 2) bits a.code (omega arith) h) (by_taken d (d + 2) bits b.code (omega arith) j)
 
 -- The C operator of one that repeats, and what such a link is.
 goes_plus : (own : Arith) (bits : ℕ) (joined : Bool) (a b : Rated) → same_arith plus own ≡ true → Operates Add (linked own bits joined a b)
@@ -481,14 +489,68 @@ module _ (names : Names) where
     end_by d absent h = tt
     end_by d (present e) h = num_by d e h
 
-  pub given_by : (d : ℕ) (t : NumTree) → num_within d t ≡ true → ExprBy (5 * d + 5) (given names t)
-  given_by d (number at n) h = num_by d (number at n) h
-  given_by d (read at of path) h = num_by d (read at of path) h
-  given_by d (element at of cells index) h = num_by d (element at of cells index) h
-  given_by d (link at sign op bits joined a b) h = num_by d (link at sign op bits joined a b) h
-  given_by d (convert at sign bits a) h = by_more (5 * (d - 1) + 5) (5 * d + 5) _ (omega arith) (given_by (d - 1) a (both_true (nat_le 1 d) (num_within (d - 1) a) h).1)
-  given_by d (length_of at cells) h = num_by d (length_of at cells) h
-  given_by d (asked at question a) h = num_by d (asked at question a) h
+  -- Two numbers that are compared as one open one bracket more at most.
+  by_with_zero : (d k bits : ℕ) (a : Rated) → d + 3 ≤ k → ExprBy d a.code → ExprBy k (with_zero bits a).code
+  by_with_zero d k bits a l h = by_balanced_chain d k bits false Add a (rated (num 0) Int) l h (by_num d 0)
+
+  by_xor_operand : (d k bits : ℕ) (t : NumTree) (a : Rated) (other : NumTree) → d + 3 ≤ k → ExprBy d a.code → ExprBy k (xor_operand bits t a other).code
+  by_xor_operand d k bits t a other l h = by_rated_if k (is_short_ones bits other && is_converted t) (with_zero bits a) a (by_with_zero d k bits a l h) (by_more d k a.code (omega (arith, l)) h)
+
+  by_pair : (d k : ℕ) (op : Arith) (bits : ℕ) (a b : NumTree) → d + 6 ≤ k → ExprBy d (lowered names a).code → ExprBy d (lowered names b).code → ExprBy k (pair_compared names op bits a b).code
+  by_pair d k bits_xor bits a b l h j =
+      let left = apart minus bits (lowered names b) (lowered names a) in
+      let right = apart minus bits (lowered names a) (lowered names b) in
+      let one = xor_operand bits a (lowered names a) b in
+      let other = xor_operand bits b (lowered names b) a in
+      by_rated_if k (is_ones bits b) left (if is_ones bits a then right else apart bits_xor bits one other)
+      (by_balanced_two d k bits Sub (lowered names b) (lowered names a) (omega (arith, l)) j h)
+      (by_rated_if k (is_ones bits a) right (apart bits_xor bits one other)
+      (by_balanced_two d k bits Sub (lowered names a) (lowered names b) (omega (arith, l)) h j)
+      (by_balanced_chain (d + 3) k bits false BitXor one other (omega (arith, l)) (by_xor_operand d (d + 3) bits a (lowered names a) b (omega arith) h) (by_xor_operand d (d + 3) bits b (lowered names b) a (omega arith) j)))
+  by_pair d k mod_minus bits a b l h j =
+      let right = apart minus bits (lowered names a) (lowered names b) in
+      by_rated_if k (is_ones bits a) right (apart mod_minus bits (lowered names a) (lowered names b)) (by_balanced_two d k bits Sub (lowered names a) (lowered names b) (omega (arith, l)) h j)
+      (by_linked d k mod_minus bits false (lowered names a) (lowered names b) (omega (arith, l)) h j)
+  by_pair d k op bits a b l h j = by_linked d k op bits false (lowered names a) (lowered names b) (omega (arith, l)) h j
+
+  pub comparand_by : (d : ℕ) (t : NumTree) → num_within d t ≡ true → ExprBy (5 * d + 6) (comparand names t).code
+  comparand_by d (number at n) h = by_more (5 * d + 5) (5 * d + 6) _ (omega arith) (num_by d (number at n) h)
+  comparand_by d (read at of path) h = by_more (5 * d + 5) (5 * d + 6) _ (omega arith) (num_by d (read at of path) h)
+  comparand_by d (element at of cells index) h = by_more (5 * d + 5) (5 * d + 6) _ (omega arith) (num_by d (element at of cells index) h)
+  comparand_by d (link at sign op bits true a b) h = by_more (5 * d + 5) (5 * d + 6) _ (omega arith) (num_by d (link at sign op bits true a b) h)
+  comparand_by d (link at sign op bits false a b) h =
+      let p = both_true (nat_le 1 d) (num_within (d - 1) a && num_within (d - 1) b) h in
+      let q = both_true (num_within (d - 1) a) (num_within (d - 1) b) p.1 in
+      by_pair (5 * (d - 1) + 5) (5 * d + 6) op bits a b (omega (arith, at_least_one d p.0)) (num_by (d - 1) a q.0) (num_by (d - 1) b q.1)
+  comparand_by d (convert at sign bits a) h =
+      by_more (5 * (d - 1) + 6) (5 * d + 6) _ (omega arith) (comparand_by (d - 1) a (both_true (nat_le 1 d) (num_within (d - 1) a) h).1)
+  comparand_by d (length_of at cells) h = by_more (5 * d + 5) (5 * d + 6) _ (omega arith) (num_by d (length_of at cells) h)
+  comparand_by d (asked at question a) h = by_more (5 * d + 5) (5 * d + 6) _ (omega arith) (num_by d (asked at question a) h)
+
+  by_beside : (d k : ℕ) (a : Rated) (ty : CTy) → d + 2 ≤ k → ExprBy d a.code → ExprBy k (beside a ty).code
+  by_beside d k a ty l h = by_rated_if k (nat_lt (rank a.ty) (rank ty)) (converted (c_width ty) a) a (by_converted d k (c_width ty) a (omega (arith, l)) (omega (arith, l)) h) (by_more d k a.code (omega (arith, l)) h)
+
+  bare_by : (d : ℕ) (t : NumTree) → num_within d t ≡ true → ExprBy (5 * d + 5) (lowered names (bare t)).code
+  bare_by d (number at n) h = num_by d (number at n) h
+  bare_by d (read at of path) h = num_by d (read at of path) h
+  bare_by d (element at of cells index) h = num_by d (element at of cells index) h
+  bare_by d (link at sign op bits joined a b) h = num_by d (link at sign op bits joined a b) h
+  bare_by d (convert at sign bits a) h = by_more (5 * (d - 1) + 5) (5 * d + 5) _ (omega arith) (bare_by (d - 1) a (both_true (nat_le 1 d) (num_within (d - 1) a) h).1)
+  bare_by d (length_of at cells) h = num_by d (length_of at cells) h
+  bare_by d (asked at question a) h = num_by d (asked at question a) h
+
+  -- What is given opens two more at most.
+  plain_by : (d : ℕ) (e : ExprTree) → ExprBy (5 * d + 5) e → ExprBy (5 * d + 7) e
+  plain_by d e h = by_more (5 * d + 5) (5 * d + 7) e (omega arith) h
+
+  pub given_by : (d : ℕ) (t : NumTree) → num_within d t ≡ true → ExprBy (5 * d + 7) (given names t)
+  given_by d (number at n) h = plain_by d _ (num_by d (number at n) h)
+  given_by d (read at of path) h = plain_by d _ (num_by d (read at of path) h)
+  given_by d (element at of cells index) h = plain_by d _ (num_by d (element at of cells index) h)
+  given_by d (link at sign op bits joined a b) h = by_taken (5 * d + 5) (5 * d + 7) bits _ (omega arith) (num_by d (link at sign op bits joined a b) h)
+  given_by d (convert at sign bits a) h = by_taken (5 * (d - 1) + 5) (5 * d + 7) bits _ (omega arith) (bare_by (d - 1) a (both_true (nat_le 1 d) (num_within (d - 1) a) h).1)
+  given_by d (length_of at cells) h = plain_by d _ (num_by d (length_of at cells) h)
+  given_by d (asked at question a) h = plain_by d _ (num_by d (asked at question a) h)
 
   -- ---- conditions
 
@@ -582,7 +644,9 @@ module _ (names : Names) where
   cond_by d (compare at sign a op b) h =
       let p = both_true (nat_le 1 d) (num_within (d - 1) a && num_within (d - 1) b) h in
       let q = both_true (num_within (d - 1) a) (num_within (d - 1) b) p.1 in
-      by_compared (5 * (d - 1) + 5) (5 * d + 5) op _ _ (omega (arith, at_least_one d p.0)) (num_by (d - 1) a q.0) (num_by (d - 1) b q.1)
+      let l = at_least_one d p.0 in
+      by_compared (5 * (d - 1) + 8) (5 * d + 5) op _ _ (omega (arith, l)) (by_beside (5 * (d - 1) + 6) (5 * (d - 1) + 8) (comparand names a) (comparand names b).ty (omega arith) (comparand_by (d - 1) a q.0))
+      (by_beside (5 * (d - 1) + 6) (5 * (d - 1) + 8) (comparand names b) (comparand names a).ty (omega arith) (comparand_by (d - 1) b q.1))
   cond_by d (same_status at sign a one b) h = by_statuses (5 * d + 5) one a b (omega arith)
   cond_by d (junction at both joined a b) h =
       let p = both_true (nat_le 1 d) (cond_within (if joined && cond_goes_on both a then d else d - 1) a && cond_within (d - 1) b) h in

@@ -4,6 +4,7 @@ use Rattle.std.specs.Prelude.{if◌then◌else◌, nat_le, nat_lt, option_and_th
 use Rattle.std.proofs.lemmas.Bool.Decides.{nat_tests}
 use Rattle.wf_num.specs.declared.c_arithmetic.CTy.{CTy}
 use Rattle.wf_num.specs.declared.c_arithmetic.CTy.TheVariants.{Int, U32, U64}
+use Rattle.wf_num.specs.CArithmetic.{c_width}
 use Rattle.wf_base.specs.declared.base_methods.PeekForm.{PeekForm}
 use Rattle.wf_base.specs.declared.base_methods.PeekForm.TheVariants.{PeekU8, PeekU16Le, PeekU32Le}
 use Rattle.wf_text.specs.declared.categories.Category.{Category}
@@ -24,7 +25,7 @@ use Rattle.c_meaning.specs.CValues.{common}
 use Rattle.c_meaning.specs.CTypes.{CScope, promoted, ExprType, numbers, points_to, zero_literal, byte, as_number, arithmetic_type, sum_type, one_type, test_type, operation_type, operations_type, type_of, operand_types, cast_from, literal_type}
 use Rattle.wf_exprs.specs.Names.{Names}
 use Rattle.wf_exprs.specs.Words.{literal, num, uint_of, width_of, two}
-use Rattle.wf_exprs.specs.Exprs.{calculated, rank, Rated, rated, recast, firm, balanced, with_operand, same_op, chained, cut_off, factor, linked, converted, is_held, is_array as is_whole, moved, part_pointer, part_length, io_code, place_code, end_code, bytes_code, peeked, raised, peek_code, asked_code, same_code, compared, is_literal, is_constant, constant_number, constants_compared, held_compared, statuses_compared, begins_with, category_code, lowered, lowered_slice, lowered_end, lowered_status, lowered_cond}
+use Rattle.wf_exprs.specs.Exprs.{calculated, rank, Rated, rated, recast, firm, balanced, with_operand, same_op, chained, cut_off, taken, is_filled, factor, linked, converted, is_held, is_array as is_whole, moved, part_pointer, part_length, io_code, place_code, end_code, bytes_code, peeked, raised, peek_code, asked_code, same_code, compared, is_literal, is_constant, constant_number, constants_compared, held_compared, statuses_compared, begins_with, category_code, lowered, lowered_slice, lowered_end, is_ones, is_short_ones, is_converted, apart, with_zero, xor_operand, pair_compared, comparand, beside, lowered_status, lowered_cond}
 use Rattle.wf_lower_laws.specs.KindLaw.{IsNum, IsPointer, IsText, IsBuffer, Declares, has_op, has_question, num_served, slice_served, end_served, status_served, cond_served, ExpressionsKeepKinds}
 
 module _ (S : CScope) where
@@ -122,6 +123,9 @@ module _ (S : CScope) where
 
   cut_off_kind : (bits : ℕ) (x : ExprTree) → IsNum S x → IsNum S (cut_off bits x)
   cut_off_kind bits x h = kind_if (nat_le bits 16) (cast (uint_of bits) x) x (cast_kind bits x h) h
+
+  pub taken_kind : (bits : ℕ) (x : ExprTree) → IsNum S x → IsNum S (taken bits x)
+  taken_kind bits x h = kind_if (is_filled x) (cut_off bits x) x (cut_off_kind bits x h) h
 
   factor_kind : (bits : ℕ) (a b : Rated) → IsNum S a.code → IsNum S (factor bits a b)
   factor_kind bits a b h = kind_if (nat_eq bits 16) (recast 32 a.code) (balanced bits a b) (recast_kind 32 a.code h) (balanced_kind bits a b h)
@@ -285,8 +289,8 @@ module _ (S : CScope) where
     linked_kind mod_minus bits joined a b g h j = cut_off_kind bits _ (two_kind Sub (balanced bits a b) b.code (balanced_kind bits a b h) j)
     linked_kind mod_times bits joined a b g h j = cut_off_kind bits _ (two_kind Mul (factor bits a b) b.code (factor_kind bits a b h) j)
     linked_kind mod_shift_left bits joined a b g h j = cut_off_kind bits _ (two_kind Shl (firm bits a) b.code (firm_kind bits a h) j)
-    linked_kind sat_plus bits joined a b g h j = d.calls true bits a.code b.code g h j
-    linked_kind sat_minus bits joined a b g h j = d.calls false bits a.code b.code g h j
+    linked_kind sat_plus bits joined a b g h j = d.calls true bits (taken bits a.code) (taken bits b.code) g (taken_kind bits a.code h) (taken_kind bits b.code j)
+    linked_kind sat_minus bits joined a b g h j = d.calls false bits (taken bits a.code) (taken bits b.code) g (taken_kind bits a.code h) (taken_kind bits b.code j)
 
     byte_kind : (a j : ℕ) → IsBuffer S names a → IsPointer S 8 (bytes_code names a) → IsNum S (peeked names a j)
     byte_kind a j b p =
@@ -358,6 +362,51 @@ module _ (S : CScope) where
       end_kind absent w s = tt
       end_kind (present e) w s = number_kind e (both_true (is_whole_number e) (well_part x e) w).1 s
 
+    -- Two numbers that are compared as one.
+    apart_kind : (op : Arith) (bits : ℕ) (a b : Rated) → has_op has op bits ≡ true → IsNum S a.code → IsNum S b.code → IsNum S (apart op bits a b).code
+    apart_kind op bits a b g h j = linked_kind op bits false a b g h j
+
+    operand_kind : (bits : ℕ) (t : NumTree) (a : Rated) (other : NumTree) → IsNum S a.code → IsNum S (xor_operand bits t a other).code
+    operand_kind bits t a other h = rated_if (is_short_ones bits other && is_converted t) (with_zero bits a) a (apart_kind plus bits a (rated (num 0) Int) refl h (num_kind 0)) h
+
+    pair_kind : (op : Arith) (bits : ℕ) (a b : NumTree) → has_op has op bits ≡ true → IsNum S (lowered names a).code → IsNum S (lowered names b).code → IsNum S (pair_compared names op bits a b).code
+    pair_kind bits_xor bits a b g h j =
+        let left = apart minus bits (lowered names b) (lowered names a) in
+        let right = apart minus bits (lowered names a) (lowered names b) in
+        let other = apart bits_xor bits (xor_operand bits a (lowered names a) b) (xor_operand bits b (lowered names b) a) in
+        rated_if (is_ones bits b) left (if is_ones bits a then right else other) (apart_kind minus bits (lowered names b) (lowered names a) refl j h)
+        (rated_if (is_ones bits a) right other (apart_kind minus bits (lowered names a) (lowered names b) refl h j)
+        (apart_kind bits_xor bits (xor_operand bits a (lowered names a) b) (xor_operand bits b (lowered names b) a) refl (operand_kind bits a (lowered names a) b h) (operand_kind bits b (lowered names b) a j)))
+    pair_kind mod_minus bits a b g h j =
+        rated_if (is_ones bits a) (apart minus bits (lowered names a) (lowered names b)) (apart mod_minus bits (lowered names a) (lowered names b))
+        (apart_kind minus bits (lowered names a) (lowered names b) refl h j) (apart_kind mod_minus bits (lowered names a) (lowered names b) g h j)
+    pair_kind op bits a b g h j = apart_kind op bits (lowered names a) (lowered names b) g h j
+
+    comparand_kind : (t : NumTree) → well_part x t ≡ true → num_served has reads t ≡ true → IsNum S (comparand names t).code
+    comparand_kind (link at sign op bits true a b) w s = number_kind (link at sign op bits true a b) w s
+    comparand_kind (link at sign op bits false a b) w s =
+        let p = (both_true (is_width bits) _ w).1 in
+        let q = (both_true (fits bits a) _ p).1 in
+        let r = (both_true (is_shift op || fits bits b) _ q).1 in
+        let u = (both_true (not false || continues op bits a) _ r).1 in
+        let v = (both_true (false || is_whole_number a) _ u).1 in
+        let y = both_true (well_part x a) _ v in
+        let z = both_true (is_whole_number b) (well_part x b) y.1 in
+        let m = both_true (has_op has op bits) (num_served has reads a && num_served has reads b) s in
+        let n = both_true (num_served has reads a) (num_served has reads b) m.1 in
+        pair_kind op bits a b m.0 (number_kind a y.0 n.0) (number_kind b z.1 n.1)
+    comparand_kind (convert at sign bits a) w s =
+        let p = (both_true (is_width bits) _ w).1 in
+        comparand_kind a (both_true (is_whole_number a) (well_part x a) p).1 s
+    comparand_kind (number at n) w s = number_kind (number at n) w s
+    comparand_kind (read at of path) w s = number_kind (read at of path) w s
+    comparand_kind (element at of cells index) w s = number_kind (element at of cells index) w s
+    comparand_kind (length_of at cells) w s = number_kind (length_of at cells) w s
+    comparand_kind (asked at question a) w s = number_kind (asked at question a) w s
+
+    beside_kind : (a : Rated) (ty : CTy) → IsNum S a.code → IsNum S (beside a ty).code
+    beside_kind a ty h = rated_if (nat_lt (rank a.ty) (rank ty)) (converted (c_width ty) a) a (converted_kind (c_width ty) a h) h
+
     status_kind : (t : StatusTree) → well_status x t ≡ true → status_served knows t ≡ true → IsText S (lowered_status names t)
     status_kind (status at n) w s = d.constants n s
     status_kind (held at path) w s = inr (d.statuses path w)
@@ -381,7 +430,7 @@ module _ (S : CScope) where
         let p = (both_true _ (well_num x a && well_num x b) w).1 in
         let q = both_true (well_num x a) (well_num x b) p in
         let u = both_true (num_served has reads a) (num_served has reads b) s in
-        compared_kind op _ _ (number_kind a (both_true (is_whole_number a) (well_part x a) q.0).1 u.0) (number_kind b (both_true (is_whole_number b) (well_part x b) q.1).1 u.1)
+        compared_kind op _ _ (beside_kind (comparand names a) (comparand names b).ty (comparand_kind a (both_true (is_whole_number a) (well_part x a) q.0).1 u.0)) (beside_kind (comparand names b) (comparand names a).ty (comparand_kind b (both_true (is_whole_number b) (well_part x b) q.1).1 u.1))
     condition_kind (same_status at sign a one b) w s =
         let p = both_true (well_status x a) (well_status x b) w in
         let u = both_true (status_served knows a) (status_served knows b) s in

@@ -29,7 +29,7 @@ use Rattle.c_meaning.specs.CStep.{Callee, callee_of, own as own_function}
 use Rattle.c_meaning.specs.UnitForm.{uint_of as form_uint, Checked, has_type, formed_return, formed_call, is_called, may_keep, answer_type, arg_params, args_params}
 use Rattle.wf_exprs.specs.Names.{local_pointer, local_length, point_field, held_field, count_field, struct_type, again_label, behind_label}
 use Rattle.wf_exprs.specs.Words.{num, uint_of, width_of, two, of_self, args}
-use Rattle.wf_exprs.specs.Exprs.{path_code, lowered_expr, lowered_slice, given, lowered_status, lowered_cond, status_constant, begins_with, io_code, place_code, end_code, bytes_code, there}
+use Rattle.wf_exprs.specs.Exprs.{bare, path_code, lowered_expr, lowered_slice, given, lowered_status, lowered_cond, status_constant, begins_with, io_code, place_code, end_code, bytes_code, there}
 use Rattle.wf_exprs.specs.Reads.{expr_reads, code_reads}
 use Rattle.wf_lower_stmts.specs.Forms.{Form, status_local, got_local, size_local, held_local, count_local, is_io, is_kept, local_code, saved_code, stays, holds_something, counts_bytes, keeps, place_in, end_of, when, put, get, save_locals, restore_locals, save_count, save_started, give, suspend, resume_here}
 use Rattle.wf_lower_stmts.specs.Lower.{lower, continues as continues_in, again_here, behind_here, other_kind, returns, ending, ending_of, has_result, tail_of, top}
@@ -38,7 +38,7 @@ use Rattle.wf_lower.specs.Bodies.{params_of, result_of}
 use Rattle.wf_lower_laws.specs.KindLaw.{IsNum, IsPointer, IsText, Declares, KeepKinds, has_op, has_question, num_served, slice_served, end_served, status_served, cond_served}
 use Rattle.wf_lower_laws.proofs.Apart.{left_or, right_or}
 use Rattle.wf_lower_laws.proofs.Names.{both_hold}
-use Rattle.wf_lower_laws.proofs.ExprKinds.{expressions_keep_kinds, num_kind, two_kind, cast_kind, converted_kind, plus_kind, begins_kind}
+use Rattle.wf_lower_laws.proofs.ExprKinds.{expressions_keep_kinds, num_kind, taken_kind, two_kind, cast_kind, converted_kind, plus_kind, begins_kind}
 use Rattle.wf_lower_laws.proofs.Frames.{same_bytes, is_variable, is_result_of}
 use Rattle.wf_lower_laws.proofs.Straight.{straight_reads, gets}
 use Rattle.wf_lower_laws.proofs.CodeTypes.{Fits, num_fits, text_fits, pointer_fits, Cell, NumCell, variable_num, CodeOk, ok_finish, ok_if, ok_assign, ok_number, ok_read, ok_leave, ok_branch, ok_when, ok_repeat, ok_jump, ok_empty, ok_case, ok_label, ok_call, ok_when_assigned, num_typed, num_counts, fits_typed}
@@ -249,12 +249,21 @@ module _ (c : Checked) (f : Form) (Settled : List ℕ → Type 0) (CallOk : List
     whole_ok : (t : NumTree) → well_num x t ≡ true → IsNum S (lowered_expr f.names t)
     whole_ok t w = number_ok t (both_true (is_whole_number t) (well_part x t) w).1
 
+    bare_part : (t : NumTree) → well_part x t ≡ true → IsNum S (lowered_expr f.names (bare t))
+    bare_part (convert at sign bits a) w = bare_part a (both_true (is_whole_number a) (well_part x a) (both_true (is_width bits) _ w).1).1
+    bare_part (number at n) w = number_ok (number at n) w
+    bare_part (read at of path) w = number_ok (read at of path) w
+    bare_part (element at of cells index) w = number_ok (element at of cells index) w
+    bare_part (link at sign op bits joined a b) w = number_ok (link at sign op bits joined a b) w
+    bare_part (length_of at cells) w = number_ok (length_of at cells) w
+    bare_part (asked at question a) w = number_ok (asked at question a) w
+
     given_part : (t : NumTree) → well_part x t ≡ true → IsNum S (given f.names t)
-    given_part (convert at sign bits a) w = given_part a (both_true (is_whole_number a) (well_part x a) (both_true (is_width bits) _ w).1).1
+    given_part (convert at sign bits a) w = taken_kind S bits _ (bare_part a (both_true (is_whole_number a) (well_part x a) (both_true (is_width bits) _ w).1).1)
     given_part (number at n) w = number_ok (number at n) w
     given_part (read at of path) w = number_ok (read at of path) w
     given_part (element at of cells index) w = number_ok (element at of cells index) w
-    given_part (link at sign op bits joined a b) w = number_ok (link at sign op bits joined a b) w
+    given_part (link at sign op bits joined a b) w = taken_kind S bits _ (number_ok (link at sign op bits joined a b) w)
     given_part (length_of at cells) w = number_ok (length_of at cells) w
     given_part (asked at question a) w = number_ok (asked at question a) w
 
