@@ -1,6 +1,6 @@
 // Numbers that are compared. A complement of 8 or 16 bits is the difference to all ones there.
 
-ghost use Rattle.std.specs.Prelude.{◌≡◌, ◌<◌, ◌∷◌, ◌-◌, ◌^◌, [], None, true, false, nat_eq, nat_le, length, map, IsTrue, IfOk};
+ghost use Rattle.std.specs.Prelude.{◌≡◌, ◌<◌, ◌∷◌, ◌-◌, ◌^◌, [], None, nat_eq, nat_le, length, map, IsTrue, IfOk};
 ghost use Rattle.std.specs.List.{list_all};
 ghost use Rattle.wf_base.specs.BaseTable.{bits_of};
 ghost use Rattle.wf_ast.specs.TypedTrees.{chain_of, num_type, operator_kind, place_of_node, signs_of_node, tree_of, type_of_node};

@@ -1,7 +1,7 @@
 use Rattle.std.proofs.Common.{◌<◌, ◌∙◌, length, sym, ap, arith}
 use Rattle.std.proofs.lemmas.Bool.Decides.{nat_tests}
 use Rattle.wf_ast.specs.TypedTree.{ValueTree}
-use Rattle.wf_ast.specs.TypedTrees.{num_in, operator_kind, tree_of, type_of_node, place_of_node, signs_of_node}
+use Rattle.wf_ast.specs.TypedTrees.{num_in, operator_kind, type_of_node, place_of_node, signs_of_node}
 use Rattle.wf_exprs.specs.Exprs.{compared_as, lowered}
 use Rattle.wf_exprs_nodes.proofs.ComparandLaws.{many_compared}
 use Rattle.wf_exprs_nodes.proofs.SliceLaws.{retell_rated}
