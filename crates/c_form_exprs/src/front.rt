@@ -113,7 +113,7 @@ impl<'u> Front<'u> {
     }
 
     /// The field of this name in the struct of that name.
-    pub fn field(&self, of: CNameId, name: CNameId) -> Option<CField>
+    pub(crate) fn field(&self, of: CNameId, name: CNameId) -> Option<CField>
         requires of { HasName self.now.nodes of }
         requires name { HasName self.now.nodes name }
         ensures { Finds (IsField self.now.nodes) result (option_and_then (λ it. field_named it.fields (bytes_at self.now.nodes.names name.0)) (struct_named (structs_of (front_items self.now)) (bytes_at self.now.nodes.names of.0))) }

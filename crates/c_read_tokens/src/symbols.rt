@@ -31,7 +31,7 @@ impl Symbol {
     }
 
     /// How many bytes it has.
-    pub fn len(self) -> usize
+    pub(crate) fn len(self) -> usize
         ensures { result ≡ length (token_bytes (symbol_token_of self)) }
     {
         match self {

@@ -1,5 +1,5 @@
 // Numbers of C with the type in which C calculates them, and the operators between them. A cast stands where C would calculate
-// in another type than the source, and nowhere else.
+// in another type than the source, and beyond that round an or that may fill its width, where it is converted.
 
 ghost use Rattle.std.specs.Prelude.{◌≡◌, ◌<◌, true, false, length, IfOk, Some, None};
 ghost use Rattle.wf_base.specs.BaseTable.{bits_of};

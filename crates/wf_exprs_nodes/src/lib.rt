@@ -14,5 +14,4 @@ pub mod values;
 
 pub use conditions::condition;
 pub use numbers::{given, lower_slice, number};
-pub use statuses::status;
 pub use values::lower_expr;

@@ -45,7 +45,7 @@ pub(crate) enum Called {
 
 impl Called {
     /// The number of the method.
-    pub fn method(self) -> MethodId
+    pub(crate) fn method(self) -> MethodId
         ensures { result.0 ≡ number_of (called_in self) }
     {
         match self {

@@ -66,7 +66,7 @@ pub fn keeps_count(t: &Typed, body: &Block) -> bool
 }
 
 /// Whether a `return` stands in the block.
-pub fn returns(t: &Typed, body: &Block) -> bool
+pub(crate) fn returns(t: &Typed, body: &Block) -> bool
     requires typed { IsTyped t.now }
     requires known { IsTrue (block_below (length t.now.stmts) body.now) }
     ensures { result ≡ returns_in (block_of t.now body.now) }

@@ -23,7 +23,7 @@ pub enum CTy {
 
 impl CTy {
     /// How many bits the type has.
-    pub fn width(self) -> u32
+    pub(crate) fn width(self) -> u32
         ensures { result ≡ c_width self }
     {
         match self {

@@ -160,7 +160,7 @@ impl Names {
     }
 
     /// Adds a name after the others.
-    pub fn push(&mut self, alloc: Global, word: &[u8], thing: Thing) -> Result<(), NoMemory>
+    pub(crate) fn push(&mut self, alloc: Global, word: &[u8], thing: Thing) -> Result<(), NoMemory>
         ensures { OnOk result (self.new ≡ self.old ++ (record { name = word.now; thing = thing }) ∷ []) }
     {
         let name = Vec::from_slice(alloc, word)?;
