@@ -161,7 +161,8 @@ fn is_full(u: &Unit, e: CExprId) -> bool
     }
 }
 
-/// Whether an or of these two may be a constant once it is converted, by the first.
+/// Whether the first of two that are or-ed may make the or a constant, once it is converted: it is a constant, and either has all
+/// ones or stands beside what is calculated.
 fn fills(u: &Unit, a: CExprId, b: CExprId) -> bool
     requires first { a.0 < length u.now.exprs }
     requires second { b.0 < length u.now.exprs }

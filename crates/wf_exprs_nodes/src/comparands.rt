@@ -30,7 +30,7 @@ pub(crate) fn comparand(scope: &BodyNames, u: &mut Unit, e: ExprId) -> Result<Ra
     compared_as(scope, u, it)
 }
 
-// What is converted to be compared.
+// A number that is compared, once the conversions round it are left out.
 fn compared_as(scope: &BodyNames, u: &mut Unit, e: ExprId) -> Result<Rated, NoMemory>
     requires { IsTrue (is_number_at scope.now.nodes e) }
     ensures grows { Grows u.old u.new }
