@@ -155,12 +155,12 @@ type Chain = (&'static [u8], &'static [u8], usize, &'static [u8]);
 
 // Chains that no bracket bounds.
 const CHAINS: &[Chain] = &[
-    (b"\nvoid f(void) {\n    x = a", b"->b", 60000, b";\n}\n"),
-    (b"\nvoid f(void) {\n    x = a", b"[0]", 60000, b";\n}\n"),
-    (b"\nvoid f(void) {\n    x = (a", b" + a", 60000, b");\n}\n"),
+    (b"\nvoid f(void) {\n  x = a", b"->b", 60000, b";\n}\n"),
+    (b"\nvoid f(void) {\n  x = a", b"[0]", 60000, b";\n}\n"),
+    (b"\nvoid f(void) {\n  x = (a", b" + a", 60000, b");\n}\n"),
     (
-        b"\nvoid f(void) {\n    if (a) {\n    }",
-        b" else if (a) {\n    }",
+        b"\nvoid f(void) {\n  if (a) {\n  }",
+        b" else if (a) {\n  }",
         60000,
         b"\n}\n",
     ),

@@ -5,9 +5,9 @@ use Rattle.c_text.proofs.Trees.{append_nil}
 
 pub deeper : (a b : ℕ) → indented (a + b) ≡ indented a ++ indented b
 deeper a zero = let same : a + 0 ≡ a = omega arith in ap indented same ∙ sym (append_nil (indented a))
-deeper a (suc b) = let one_more : a + suc b ≡ suc (a + b) = omega arith in ap indented one_more ∙ ap (λ xs. xs ++ codes "    ") (deeper a b) ∙ append_assoc (indented a) (indented b) (codes "    ")
+deeper a (suc b) = let one_more : a + suc b ≡ suc (a + b) = omega arith in ap indented one_more ∙ ap (λ xs. xs ++ codes "  ") (deeper a b) ∙ append_assoc (indented a) (indented b) (codes "  ")
 
-pub few_spaces : (depth : ℕ) → depth ≤ 8 → take (4 * depth) (codes "                                ") ≡ indented depth
+pub few_spaces : (depth : ℕ) → depth ≤ 8 → take (2 * depth) (codes "                ") ≡ indented depth
 few_spaces zero h = refl
 few_spaces (suc zero) h = refl
 few_spaces (suc (suc zero)) h = refl

@@ -17,7 +17,7 @@ use Rattle.c_text.proofs.Spelled.{Spelt, IsClear, spell, spell_gap, gap_append, 
 
 indented_gap : (depth : ℕ) → IsGap (indented depth)
 indented_gap zero = refl
-indented_gap (suc depth) = gap_append (indented depth) (codes "    ") (indented_gap depth) refl
+indented_gap (suc depth) = gap_append (indented depth) (codes "  ") (indented_gap depth) refl
 
 line_feed : (ts : List CToken) (bytes : List ℕ) → Spelt ts bytes → Spelt ts (10 ∷ bytes)
 line_feed ts bytes s = spell_gap (10 ∷ []) ts bytes refl s
@@ -221,8 +221,8 @@ fields_spell : (fs : List FieldTree) (ts : List CToken) (bytes : List ℕ) → S
 fields_spell [] ts bytes s = s
 fields_spell (f ∷ fs) ts bytes s =
     let tail = 10 ∷ (fields_text fs ++ bytes) in
-    by_bytes _ (fields_text (f ∷ fs) ++ bytes) (codes "    " ++ (field_kind_text f.kind ++ 32 ∷ (f.name ++ (count_text f.count ++ 59 ∷ tail)))) (simp append_assoc)
-    (spell_gap (codes "    ") _ (field_kind_text f.kind ++ 32 ∷ (f.name ++ (count_text f.count ++ 59 ∷ tail))) refl
+    by_bytes _ (fields_text (f ∷ fs) ++ bytes) (codes "  " ++ (field_kind_text f.kind ++ 32 ∷ (f.name ++ (count_text f.count ++ 59 ∷ tail)))) (simp append_assoc)
+    (spell_gap (codes "  ") _ (field_kind_text f.kind ++ 32 ∷ (f.name ++ (count_text f.count ++ 59 ∷ tail))) refl
     (field_kind_spells f.kind _ (32 ∷ (f.name ++ (count_text f.count ++ 59 ∷ tail))) refl (space _ (f.name ++ (count_text f.count ++ 59 ∷ tail))
     (name_at f.name _ (count_text f.count ++ 59 ∷ tail) (clear_count f.count tail) (count_spells f.count _ tail (semicolon _ tail (line_feed _ (fields_text fs ++ bytes) (fields_spell fs ts bytes s))))))))
 
@@ -259,8 +259,8 @@ locals_spell : (ls : List LocalTree) → AreLocals ls → (ts : List CToken) (by
 locals_spell [] h ts bytes s = s
 locals_spell (l ∷ ls) h ts bytes s =
     let tail = 10 ∷ (locals_text ls ++ bytes) in
-    by_bytes _ (locals_text (l ∷ ls) ++ bytes) (codes "    " ++ (type_text l.kind ++ 32 ∷ (l.name ++ (initial_text l.initial ++ 59 ∷ tail)))) (simp append_assoc)
-    (spell_gap (codes "    ") _ (type_text l.kind ++ 32 ∷ (l.name ++ (initial_text l.initial ++ 59 ∷ tail))) refl
+    by_bytes _ (locals_text (l ∷ ls) ++ bytes) (codes "  " ++ (type_text l.kind ++ 32 ∷ (l.name ++ (initial_text l.initial ++ 59 ∷ tail)))) (simp append_assoc)
+    (spell_gap (codes "  ") _ (type_text l.kind ++ 32 ∷ (l.name ++ (initial_text l.initial ++ 59 ∷ tail))) refl
     (type_spells l.kind _ (32 ∷ (l.name ++ (initial_text l.initial ++ 59 ∷ tail))) refl (space _ (l.name ++ (initial_text l.initial ++ 59 ∷ tail))
     (name_at l.name _ (initial_text l.initial ++ 59 ∷ tail) (clear_initial l.initial tail) (initial_spells l.initial h.2 _ tail (semicolon _ tail (line_feed _ (locals_text ls ++ bytes) (locals_spell ls h.3 ts bytes s))))))))
 

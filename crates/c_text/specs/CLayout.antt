@@ -1,4 +1,4 @@
--- The layout of a printed text: one statement a line, four spaces a level, one space between tokens where C style
+-- The layout of a printed text: one statement a line, two spaces a level, one space between tokens where C style
 -- has one.
 use Rattle.std.specs.Prelude.{ℕ, ◌+◌, zero, suc, Bool, true, false, List, [], ◌∷◌, ◌++◌, Option, Some, None, codes}
 use Rattle.c_text.specs.declared.kinds.COp.{COp}
@@ -62,7 +62,7 @@ abbrev mutual
 
 abbrev pub indented : ℕ → List ℕ
 indented zero = []
-indented (suc depth) = indented depth ++ codes "    "
+indented (suc depth) = indented depth ++ codes "  "
 
 abbrev pub value_text : Option ExprTree → List ℕ
 value_text None = []
@@ -121,7 +121,7 @@ count_text None = []
 count_text (Some n) = codes "[" ++ literal_bytes n ++ codes "]"
 
 abbrev pub field_text : FieldTree → List ℕ
-field_text f = codes "    " ++ field_kind_text f.kind ++ codes " " ++ f.name ++ count_text f.count ++ codes ";\n"
+field_text f = codes "  " ++ field_kind_text f.kind ++ codes " " ++ f.name ++ count_text f.count ++ codes ";\n"
 
 abbrev pub fields_text : List FieldTree → List ℕ
 fields_text [] = []
@@ -143,7 +143,7 @@ initial_text None = []
 initial_text (Some e) = codes " = " ++ expr_text e
 
 abbrev pub local_text : LocalTree → List ℕ
-local_text l = codes "    " ++ type_text l.kind ++ codes " " ++ l.name ++ initial_text l.initial ++ codes ";\n"
+local_text l = codes "  " ++ type_text l.kind ++ codes " " ++ l.name ++ initial_text l.initial ++ codes ";\n"
 
 abbrev pub locals_text : List LocalTree → List ℕ
 locals_text [] = []

@@ -21,8 +21,8 @@ fn indent_some<P: Pen>(depth: usize, pen: &mut P)
     ensures ready { P.ready pen.new }
     ensures writes { P.writes pen.old pen.new (indented depth) }
 {
-    let spaces = b"                                ";
-    pen.write(&spaces[..4 * depth]);
+    let spaces = b"                ";
+    pen.write(&spaces[..2 * depth]);
 }
 
 /// Prints the spaces at the front of a line.

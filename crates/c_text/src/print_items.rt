@@ -45,7 +45,7 @@ fn field<P: Pen>(u: &Unit, field: CField, pen: &mut P)
     ensures ready { P.ready pen.new }
     ensures writes { P.writes pen.old pen.new (field_text (field_tree u.now.names field)) }
 {
-    pen.write(b"    ");
+    pen.write(b"  ");
     field_type(u, field.kind, pen);
     pen.write(b" ");
     pen.write(u.name(field.name));
@@ -122,7 +122,7 @@ fn local<P: Pen>(u: &Unit, local: CLocal, pen: &mut P)
     ensures ready { P.ready pen.new }
     ensures writes { P.writes pen.old pen.new (local_text (local_tree u.now.names (expr_of u.now) local)) }
 {
-    pen.write(b"    ");
+    pen.write(b"  ");
     value_type(u, local.kind, pen);
     pen.write(b" ");
     pen.write(u.name(local.name));
