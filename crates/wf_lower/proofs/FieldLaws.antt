@@ -2,7 +2,7 @@
 use Rattle.std.proofs.Common.{◌≡◌, ◌∙◌, ap, sym, subst, ℕ, ◌<◌, Bool, if◌then◌else◌, None, Some, Result, Ok, Err, OnOk, ◌&&◌, true, false, nat_eq, List, [], ◌∷◌, ◌++◌, length, map, refl, arith}
 use Rattle.std.specs.Prelude.{nat_lt, slice_get}
 use Rattle.std.proofs.lemmas.Bool.Decides.{nat_tests}
-use Rattle.std.proofs.lemmas.Option.{same_Some, slice_get_within}
+use Rattle.std.proofs.lemmas.Option.{same_Some}
 use Rattle.wf_text.specs.declared.faults.NoMemory.{NoMemory}
 use Rattle.wf_ast.specs.declared.declarations.Method.{Method}
 use Rattle.wf_ast.specs.declared.declarations.Var.{Var}
@@ -13,9 +13,8 @@ use Rattle.wf_ast.specs.declared.types.Ty.TheVariants as types
 use Rattle.wf_text.specs.declared.numbers.StructId.{StructId}
 use Rattle.wf_ast.specs.TypedInvariant.{IsTyped}
 use Rattle.wf_ast.specs.TypedPackage.{MethodTree, method_of, package_of, variable_of}
-use Rattle.wf_ast.specs.TypedTrees.{block_of, text_of}
+use Rattle.wf_ast.specs.TypedTrees.{text_of}
 use Rattle.wf_ast.specs.WellTyped.{is_coroutine, may_be_field}
-use Rattle.c_text.proofs.Arena.{slice_get-some}
 use Rattle.wf_base.specs.declared.widths.Width.{Width}
 use Rattle.wf_base.specs.BaseTable.{bits_of}
 use Rattle.c_text.specs.declared.ids.CNameId.{CNameId}
@@ -34,10 +33,12 @@ use Rattle.c_text.specs.CTree.{TypeTree, uint, plain, FieldTree, struct_item}
 use Rattle.wf_exprs.specs.Grown.{Grows, HasNamed}
 use Rattle.wf_exprs.specs.Names.{point_field, saved_field}
 use Rattle.wf_exprs.specs.Words.{literal, width_of}
+use Rattle.wf_lower_stmts.specs.BodyNodes.{started_of}
+use Rattle.wf_lower_stmts.specs.declared.walks.StartedNumbers.{StartedNumbers}
 use Rattle.wf_lower.specs.Made.{AddsFields, HasFieldTree, HasFieldTrees, HasItemTree, IsPlain}
-use Rattle.wf_lower.specs.Structs.{count_fields, held_fields, kept_field, kept_of, method_fields, started_of}
+use Rattle.wf_lower.specs.Structs.{count_fields, held_fields, kept_field, kept_of, method_fields, number_fields}
 use Rattle.wf_lower.specs.Unit.{field, kept_fields, kept_type}
-use Rattle.wf_lower.proofs.Known.{count_same, method_at}
+use Rattle.wf_lower.proofs.Known.{count_same, made_there}
 use Rattle.wf_lower.proofs.PartLaws.{method_keeps, method_keeps_none}
 use Rattle.wf_lower.proofs.Kept.{keeps, type_there, type_same, fields_kept, fields_on, no_fields}
 
@@ -87,41 +88,41 @@ kept_made {b} nodes method x local kind name same nameless h =
 pub number_made : {b : Nodes} (there : Bool) (ty : CUint) (spelt : List ℕ) (name : CNameId) → there ≡ true → HasNamed b name.0 spelt → field (uint ty) (bytes_at b.names name.0) ∷ [] ≡ (if there then field (uint ty) spelt ∷ [] else [])
 number_made {b} there ty spelt name is h = ap (λ n. field (uint ty) n ∷ []) h.is ∙ sym (ap (λ t. if t then field (uint ty) spelt ∷ [] else []) is)
 
-pub started_made : (a b c : Nodes) (fs gs hs : List CField) (held counts h k : Bool) (method : List ℕ) (r : Result (Unit {0}) NoMemory) → held ≡ h → counts ≡ k → AddsFields a b fs gs (held_fields held method)
-    → OnOk r (AddsFields b c gs hs (count_fields counts method)) → OnOk r (AddsFields a c fs hs (held_fields h method ++ count_fields k method))
-started_made a b c fs gs hs held counts h k method (Ok u) e f first second =
-    let P : List FieldTree → Type 0 = λ l. AddsFields a c fs hs l in
-    subst P (ap (λ t. held_fields t method ++ count_fields counts method) e ∙ ap (λ t. held_fields h method ++ count_fields t method) f)
-    (fields_on (held_fields held method) (count_fields counts method) first second)
-started_made a b c fs gs hs held counts h k method (Err refused) e f first second = second
-
 -- What a coroutine keeps.
-pub coroutine_made : (nodes : TypedNodes) (m : Method) (body : Block) (name : List ℕ) (locals : List Var) → text_of nodes m.name ≡ name → locals ≡ m.locals
-    → field (uint U16) (point_field name) ∷ kept_fields name (map (variable_of nodes) locals) ++ started_of name (block_of nodes body) ≡ kept_of (method_of nodes m body)
-coroutine_made nodes m body name locals e f =
-    ap (λ n. field (uint U16) (point_field n) ∷ kept_fields n (map (variable_of nodes) locals) ++ started_of n (block_of nodes body)) (sym e)
-    ∙ ap (λ xs. field (uint U16) (point_field (text_of nodes m.name)) ∷ kept_fields (text_of nodes m.name) (map (variable_of nodes) xs) ++ started_of (text_of nodes m.name) (block_of nodes body)) f
+pub coroutine_made : (nodes : TypedNodes) (m : Method) (body : Block) (name : List ℕ) (locals : List Var) (started : StartedNumbers) → text_of nodes m.name ≡ name → locals ≡ m.locals → started ≡ started_of (method_of nodes m body)
+    → field (uint U16) (point_field name) ∷ kept_fields name (map (variable_of nodes) locals) ++ number_fields name started ≡ kept_of (method_of nodes m body)
+coroutine_made nodes m body name locals started e f g =
+    ap (λ n. field (uint U16) (point_field n) ∷ kept_fields n (map (variable_of nodes) locals) ++ number_fields n started) (sym e)
+    ∙ ap (λ xs. field (uint U16) (point_field (text_of nodes m.name)) ∷ kept_fields (text_of nodes m.name) (map (variable_of nodes) xs) ++ number_fields (text_of nodes m.name) started) f
+    ∙ ap (λ s. field (uint U16) (point_field (text_of nodes m.name)) ∷ kept_fields (text_of nodes m.name) (map (variable_of nodes) m.locals) ++ number_fields (text_of nodes m.name) s) g
 
 pub no_fields_as : {a b : Nodes} (fs : List CField) (ts : List FieldTree) → [] ≡ ts → Grows a b → AddsFields a b fs fs ts
 no_fields_as {a} {b} fs ts e g = let P : List FieldTree → Type 0 = λ l. AddsFields a b fs fs l in subst P e (no_fields fs g)
 
 -- A method keeps something in a struct, or nothing.
-pub coroutine_added : (a b : Nodes) (fs gs : List CField) (nodes : TypedNodes) (s n : ℕ) (m : Method) (body : Block) (r : Result (Unit {0}) NoMemory) → slice_get nodes.methods n ≡ Some m → slice_get nodes.bodies n ≡ Some body
-    → (nat_eq m.of.0 s && is_coroutine m.mark) ≡ true → OnOk r (AddsFields a b fs gs (kept_of (method_of nodes m body)))
-    → OnOk r ((method : MethodTree) → slice_get (package_of nodes).methods n ≡ Some method → AddsFields a b fs gs (method_fields s method))
-coroutine_added a b fs gs nodes s n m body (Ok u) h k is f = λ method e.
-    let same : method_of nodes m body ≡ method = same_Some _ _ (sym (method_at nodes n m body h k) ∙ e) in
-    let P : List FieldTree → Type 0 = λ l. AddsFields a b fs gs l in
-    subst P (method_keeps s (method_of nodes m body) is ∙ ap (method_fields s) same) f
-coroutine_added a b fs gs nodes s n m body (Err refused) h k is f = f
+module _ (nodes : TypedNodes) (typed : IsTyped nodes) (n : ℕ) (m : Method) (h : slice_get nodes.methods n ≡ Some m) where
+  pub coroutine_kept : (a b : Nodes) (fs gs : List CField) (r : Result (Unit {0}) NoMemory) (body : Block) → slice_get (package_of nodes).methods n ≡ Some (method_of nodes m body) → OnOk r (AddsFields a b fs gs (kept_of (method_of nodes m body)))
+      → OnOk r ((method : MethodTree) → slice_get (package_of nodes).methods n ≡ Some method → AddsFields a b fs gs (kept_of method))
+  coroutine_kept a b fs gs (Ok u) body k f = λ method e.
+      let P : MethodTree → Type 0 = λ it. AddsFields a b fs gs (kept_of it) in
+      subst P (same_Some _ _ (sym k ∙ e)) f
+  coroutine_kept a b fs gs (Err refused) body k f = f
 
-pub coroutine_none : {a b : Nodes} (nodes : TypedNodes) → IsTyped nodes → (s n : ℕ) (m : Method) → slice_get nodes.methods n ≡ Some m → (nat_eq m.of.0 s && is_coroutine m.mark) ≡ false → (fs : List CField) → Grows a b
-    → (method : MethodTree) → slice_get (package_of nodes).methods n ≡ Some method → AddsFields a b fs fs (method_fields s method)
-coroutine_none {a} {b} nodes typed s n m h is fs g method e =
-    let there = slice_get_within nodes.methods n m h in
-    let body = slice_get-some nodes.bodies n (omega (arith, there, typed.bodied)) in
-    let same : method_of nodes m body.0 ≡ method = same_Some _ _ (sym (method_at nodes n m body.0 h body.1) ∙ e) in
-    no_fields_as fs (method_fields s method) (method_keeps_none s (method_of nodes m body.0) is ∙ ap (method_fields s) same) g
+  test_same : (s : ℕ) (method : MethodTree) → slice_get (package_of nodes).methods n ≡ Some method → (nat_eq m.of.0 s && is_coroutine m.mark) ≡ (nat_eq method.of s && is_coroutine method.mark)
+  test_same s method e =
+      let made = made_there nodes typed n m h in
+      ap (λ (it : MethodTree). nat_eq it.of s && is_coroutine it.mark) (same_Some (method_of nodes m made.0) method (sym made.1 ∙ e))
+
+  pub coroutine_added : (a b : Nodes) (fs gs : List CField) (s : ℕ) (r : Result (Unit {0}) NoMemory) → (nat_eq m.of.0 s && is_coroutine m.mark) ≡ true
+      → OnOk r ((method : MethodTree) → slice_get (package_of nodes).methods n ≡ Some method → AddsFields a b fs gs (kept_of method)) → OnOk r ((method : MethodTree) → slice_get (package_of nodes).methods n ≡ Some method → AddsFields a b fs gs (method_fields s method))
+  coroutine_added a b fs gs s (Ok u) is f = λ method e.
+      let P : List FieldTree → Type 0 = λ l. AddsFields a b fs gs l in
+      subst P (method_keeps s method (sym (test_same s method e) ∙ is)) (f method e)
+  coroutine_added a b fs gs s (Err refused) is f = f
+
+  pub coroutine_none : {a b : Nodes} (s : ℕ) → (nat_eq m.of.0 s && is_coroutine m.mark) ≡ false → (fs : List CField) → Grows a b
+      → (method : MethodTree) → slice_get (package_of nodes).methods n ≡ Some method → AddsFields a b fs fs (method_fields s method)
+  coroutine_none {a} {b} s is fs g method e = no_fields_as fs (method_fields s method) (method_keeps_none s method (sym (test_same s method e) ∙ is)) g
 
 -- A struct has a field.
 some_field : (nodes : Nodes) (fs : List CField) (t : FieldTree) (ts : List FieldTree) → map (field_tree nodes.names) fs ≡ t ∷ ts → 0 < length fs

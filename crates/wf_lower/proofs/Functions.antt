@@ -3,7 +3,6 @@ use Rattle.std.proofs.Common.{◌≡◌, ◌∙◌, ap, sym, subst, ℕ, suc, �
 use Rattle.std.specs.Prelude.{slice_get}
 use Rattle.std.specs.List.{list_all}
 use Rattle.std.proofs.lemmas.Bool.Decides.{nat_tests}
-use Rattle.std.proofs.lemmas.Option.{slice_get_within}
 use Rattle.wf_text.specs.declared.faults.NoMemory.{NoMemory}
 use Rattle.wf_ast.specs.declared.declarations.Method.{Method}
 use Rattle.wf_ast.specs.declared.typed_code.Block.{Block}
@@ -15,18 +14,18 @@ use Rattle.wf_points.specs.PointNumbers.{PointTable, number_at, point_number}
 use Rattle.c_text.specs.declared.nodes.CItem.{CItem}
 use Rattle.c_text.specs.CNodes.{Nodes}
 use Rattle.c_text.specs.CTree.{ItemTree}
-use Rattle.c_text.proofs.Arena.{slice_get-some}
 use Rattle.wf_exprs.specs.Grown.{Grows}
 use Rattle.wf_exprs.proofs.Growing.{unchanged}
 use Rattle.wf_lower_stmts.specs.BodyNodes.{BodyTree, form_in}
 use Rattle.wf_lower_stmts.specs.Forms.{Form, form_of}
+use Rattle.wf_lower_stmts.specs.declared.walks.StartedNumbers.{StartedNumbers}
 use Rattle.wf_lower.specs.Bodies.{body_function, entry_function, functions_of}
 use Rattle.wf_lower.specs.Made.{AddsFunctions, HasFunctionTrees, HasItemTree, IsReady}
 use Rattle.wf_lower.specs.Methods.{IsBodyOf}
 use Rattle.wf_lower.specs.Parts.{entry_functions}
 use Rattle.wf_lower.specs.Unit.{initialize_functions, method_functions, struct_items}
 use Rattle.wf_lower.proofs.Kept.{FitsFunctionTree, function_of, functions_as, functions_on, functions_push, no_functions}
-use Rattle.wf_lower.proofs.Known.{body_there, count_same, in_order, method_at, methods_same, structs_in_order}
+use Rattle.wf_lower.proofs.Known.{body_same, body_there, count_same, in_order, made_there, methods_same, structs_in_order}
 use Rattle.wf_lower.proofs.PartLaws.{front_nil}
 use Rattle.wf_lower.proofs.Walks.{all_here}
 
@@ -81,19 +80,12 @@ method_cons p n m ms = front_nil (functions_of p m (slice_get p.methods m)) (met
 
 -- The body of a method.
 module _ (nodes : TypedNodes) (n : ℕ) (body : Block) (there : n < length nodes.methods) (is : slice_get nodes.bodies n ≡ Some body) where
-  body_same : (m : MethodTree) → slice_get (package_of nodes).methods n ≡ Some m → block_of nodes body ≡ m.body
-  body_same m known =
-      let found = slice_get-some nodes.methods n there in
-      let at : slice_get (package_of nodes).methods n ≡ Some (method_of nodes found.0 body) = method_at nodes n found.0 body found.1 is in
-      let e : method_of nodes found.0 body ≡ m = cc (at, known) in
-      ap (λ (it : MethodTree). it.body) e
-
-  pub is_body : (b : BodyTree) (points : PointTable) → IsReady nodes points → b.nodes ≡ nodes → b.numbers ≡ points.numbers → slice_get (package_of nodes).methods n ≡ Some (form_in b).method → IsBodyOf b body
-  is_body b points ready e f known = record {
+  pub is_body : (b : BodyTree) (points : PointTable) (started : List StartedNumbers) → IsReady nodes points started → b.nodes ≡ nodes → b.numbers ≡ points.numbers → slice_get (package_of nodes).methods n ≡ Some (form_in b).method → IsBodyOf b body
+  is_body b points started ready e f known = record {
     number = n;
     known = ap (λ (t : TypedNodes). slice_get (package_of t).methods n) e ∙ known;
     below = ap (λ (t : TypedNodes). block_below (length t.stmts) body) e ∙ body_there nodes ready.typed n body is;
-    same = ap (λ (t : TypedNodes). block_of t body) e ∙ body_same (form_in b).method known;
+    same = ap (λ (t : TypedNodes). block_of t body) e ∙ body_same nodes n body there is (form_in b).method known;
     numbers = λ s. ap (λ (ns : List (Option ℕ)). number_at ns s) f ∙ ready.numbered s ∙ ap (λ (t : TypedNodes). point_number (package_of t).methods s) (sym e);
   }
 
@@ -122,10 +114,8 @@ some_at P o a e h = subst (λ it. IfSome it P) e h
 module _ (nodes : TypedNodes) (typed : IsTyped nodes) (n : ℕ) (m : Method) (is : slice_get nodes.methods n ≡ Some m) where
   public_same : (it : MethodTree) → slice_get (package_of nodes).methods n ≡ Some it → it.public ≡ m.public
   public_same it known =
-      let here : n < length nodes.bodies = subst (λ (k : ℕ). n < k) (sym typed.bodied) (slice_get_within nodes.methods n m is) in
-      let found = slice_get-some nodes.bodies n here in
-      let at : slice_get (package_of nodes).methods n ≡ Some (method_of nodes m found.0) = method_at nodes n m found.0 is found.1 in
-      let e : it ≡ method_of nodes m found.0 = cc (at, known) in
+      let made = made_there nodes typed n m is in
+      let e : it ≡ method_of nodes m made.0 = cc (made.1, known) in
       ap (λ (x : MethodTree). x.public) e
 
   pub entry_push : (a b : Nodes) (ps qs : List CItem) (x : CItem) (r : Result (Unit {0}) NoMemory) → m.public ≡ true → Grows a b → IfSome (slice_get (package_of nodes).methods n) (λ it. HasItemTree b x (entry_function (package_of nodes) n it)) → OnOk r (qs ≡ ps ++ x ∷ [])

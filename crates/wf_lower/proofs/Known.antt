@@ -4,7 +4,7 @@ use Rattle.std.proofs.lemmas.List.{length-map}
 use Rattle.std.specs.Prelude.{slice_get, unwrap_or, option_map, nat_lt, nat_eq}
 use Rattle.std.specs.List.{list_all}
 use Rattle.std.proofs.lemmas.Bool.Decides.{nat_tests}
-use Rattle.std.proofs.lemmas.Option.{slice_get-map}
+use Rattle.std.proofs.lemmas.Option.{same_Some, slice_get-map, slice_get_within}
 use Rattle.wf_ast.specs.declared.declarations.Method.{Method}
 use Rattle.wf_ast.specs.declared.declarations.Struct.{Struct}
 use Rattle.wf_ast.specs.declared.declarations.Var.{Var}
@@ -13,10 +13,11 @@ use Rattle.wf_ast.specs.declared.typed_code.Block.{Block}
 use Rattle.wf_ast.specs.declared.typed_nodes.TypedNodes.{TypedNodes}
 use Rattle.wf_ast.specs.TypedInvariant.{IsTyped, block_below}
 use Rattle.wf_ast.specs.TypedPackage.{Variable, StructTree, MethodTree, PackageTree, package_of, struct_of, method_of, methods_of, variable_of}
-use Rattle.wf_ast.specs.TypedTrees.{text_of}
+use Rattle.wf_ast.specs.TypedTrees.{block_of, text_of}
 use Rattle.wf_ast.specs.WellTyped.{all_structs_whole, calls_in_front, calls_known, has_struct_order, is_among, is_whole, is_whole_struct, may_be_field, structs_in_front, well_method, well_typed}
 use Rattle.wf_ast.proofs.Arena.{both_true}
 use Rattle.wf_meaning.specs.SourceState.{fields_of}
+use Rattle.c_text.proofs.Arena.{slice_get-some}
 use Rattle.c_text.specs.CSpelling.{is_word_byte}
 use Rattle.wf_exprs.specs.Names.{named}
 use Rattle.wf_exprs.specs.Scopes.{are_named, is_named}
@@ -129,6 +130,31 @@ methods_count nodes (m ∷ ms) (b ∷ bodies) h = ap suc (methods_count nodes ms
 pub methods_same : (nodes : TypedNodes) → IsTyped nodes → length (package_of nodes).methods ≡ length nodes.methods
 unfolding package_of
 methods_same nodes typed = methods_count nodes nodes.methods nodes.bodies typed.bodied
+
+-- A method has a body.
+pub made_there : (nodes : TypedNodes) → IsTyped nodes → (n : ℕ) (m : Method) → slice_get nodes.methods n ≡ Some m → (b : Block) × (slice_get (package_of nodes).methods n ≡ Some (method_of nodes m b))
+made_there nodes typed n m h =
+    let there = slice_get_within nodes.methods n m h in
+    let body = slice_get-some nodes.bodies n (omega (arith, there, typed.bodied)) in
+    (body.0, method_at nodes n m body.0 h body.1)
+
+-- The body of a method, as the code has it.
+pub body_same : (nodes : TypedNodes) (n : ℕ) (body : Block) → n < length nodes.methods → slice_get nodes.bodies n ≡ Some body → (m : MethodTree) → slice_get (package_of nodes).methods n ≡ Some m → block_of nodes body ≡ m.body
+body_same nodes n body there is m known =
+    let found = slice_get-some nodes.methods n there in
+    let at : slice_get (package_of nodes).methods n ≡ Some (method_of nodes found.0 body) = method_at nodes n found.0 body found.1 is in
+    let e : method_of nodes found.0 body ≡ m = cc (at, known) in
+    ap (λ (it : MethodTree). it.body) e
+
+-- A list has something for each method.
+module _ {A : Type 0} (nodes : TypedNodes) (n : ℕ) (f : MethodTree → A) (entries : List A) (are : entries ≡ map f (package_of nodes).methods) where
+  pub entry_there : IsTyped nodes → n < length nodes.methods → n < length entries
+  entry_there typed there =
+      let same : length entries ≡ length (package_of nodes).methods = ap length are ∙ length-map (package_of nodes).methods f in
+      omega (arith, there, same, methods_same nodes typed)
+
+  pub entry_is : (entry : A) (m : MethodTree) → slice_get entries n ≡ Some entry → slice_get (package_of nodes).methods n ≡ Some m → entry ≡ f m
+  entry_is entry m h known = same_Some entry (f m) (sym h ∙ ap (λ l. slice_get l n) are ∙ slice_get-map f (package_of nodes).methods n ∙ ap (option_map f) known)
 
 -- The order has numbers of methods alone.
 method_there : (known : ℕ → Bool) (ms : List MethodTree) (n : ℕ) → calls_known known (slice_get ms n) ≡ true → n < length ms

@@ -1,7 +1,8 @@
 -- The whole text of an accepted package.
-use Rattle.std.proofs.Common.{◌≡◌, ◌∙◌, ap, sym, subst, Bool, Result, Ok, Err, OnOk, List, [], ◌∷◌, ◌++◌, refl}
+use Rattle.std.proofs.Common.{◌≡◌, ◌∙◌, ap, sym, subst, Bool, Result, Ok, Err, OnOk, List, [], ◌∷◌, ◌++◌, map, refl}
 use Rattle.wf_text.specs.declared.faults.NoMemory.{NoMemory}
 use Rattle.wf_ast.specs.declared.typed_nodes.TypedNodes.{TypedNodes}
+use Rattle.wf_ast.specs.TypedInvariant.{IsTyped}
 use Rattle.wf_ast.specs.TypedPackage.{PackageTree, package_of}
 use Rattle.wf_points.specs.PointNumbers.{PointTable}
 use Rattle.wf_bounds.specs.Acceptance.{AcceptedPackage, IsAccepted}
@@ -13,6 +14,8 @@ use Rattle.wf_exprs.specs.Grown.{Grows}
 use Rattle.wf_exprs.specs.Helpers.{all_saturating}
 use Rattle.wf_exprs_nodes.specs.Growth.{GrowsBy}
 use Rattle.wf_exprs_nodes.proofs.ItemLaws.{by_after}
+use Rattle.wf_lower_stmts.specs.BodyNodes.{started_of}
+use Rattle.wf_lower_stmts.specs.declared.walks.StartedNumbers.{StartedNumbers}
 use Rattle.wf_lower.specs.Made.{AreRead, HasFunctionTrees, IsReady, IsSpelt, item_trees}
 use Rattle.wf_lower.specs.Parts.{items_before, items_in}
 use Rattle.wf_lower.specs.Unit.{all_functions, io_buffer_item, lowered_unit, struct_items, used_helpers, used_texts}
@@ -21,11 +24,19 @@ use Rattle.wf_lower.proofs.Kept.{keeps_by}
 use Rattle.wf_lower.proofs.Small.{points_small}
 use Rattle.wf_lower.proofs.Texts.{by_list, by_on, same_grown, still_read}
 
-ready_as : (a : AcceptedPackage) → IsAccepted a → IsSpelt a.nodes → IsReady a.nodes a.points
-ready_as a kept spelt = record { typed = kept.typed; spelt = spelt; small = points_small a.nodes kept.typed kept.few a.points.numbers kept.numbers; numbered = kept.numbers; saved = kept.saved }
+-- The package is typed, as the code has it.
+pub typed_as : (a : AcceptedPackage) → IsAccepted a → (t : TypedNodes) → t ≡ a.nodes → IsTyped t
+typed_as a kept t e = subst IsTyped (sym e) kept.typed
 
-pub ready : (a : AcceptedPackage) → IsAccepted a → IsSpelt a.nodes → (t : TypedNodes) (points : PointTable) → t ≡ a.nodes → points ≡ a.points → IsReady t points
-ready a kept spelt t points e f = subst (λ (n : TypedNodes). IsReady n points) (sym e) (subst (λ (q : PointTable). IsReady a.nodes q) (sym f) (ready_as a kept spelt))
+module _ (started : List StartedNumbers) where
+  ready_as : (a : AcceptedPackage) → IsAccepted a → IsSpelt a.nodes → started ≡ map started_of (package_of a.nodes).methods → IsReady a.nodes a.points started
+  ready_as a kept spelt are =
+      record { typed = kept.typed; spelt = spelt; small = points_small a.nodes kept.typed kept.few a.points.numbers kept.numbers; numbered = kept.numbers; saved = kept.saved; started = are }
+
+  pub ready : (a : AcceptedPackage) → IsAccepted a → IsSpelt a.nodes → (t : TypedNodes) (points : PointTable) → t ≡ a.nodes → points ≡ a.points → started ≡ map started_of (package_of t).methods → IsReady t points started
+  ready a kept spelt t points e f are =
+      let made : started ≡ map started_of (package_of a.nodes).methods = are ∙ ap (λ (n : TypedNodes). map started_of (package_of n).methods) e in
+      subst (λ (n : TypedNodes). IsReady n points started) (sym e) (subst (λ (q : PointTable). IsReady a.nodes q started) (sym f) (ready_as a kept spelt made))
 
 pub whole_text : (a b : Nodes) (items : List ItemTree) → a ≡ no_nodes → GrowsBy items a b → unit_tree b ≡ items
 unfolding unit_tree

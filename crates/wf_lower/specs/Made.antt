@@ -26,8 +26,9 @@ use Rattle.wf_exprs.specs.Names.{struct_type}
 use Rattle.wf_exprs.specs.Reads.{code_reads}
 use Rattle.wf_exprs.specs.Words.{num, of_self, self}
 use Rattle.wf_exprs_nodes.specs.Marks.{AreThose}
-use Rattle.wf_lower_stmts.specs.BodyNodes.{AreSmall, HasWords}
+use Rattle.wf_lower_stmts.specs.BodyNodes.{AreSmall, HasWords, started_of}
 use Rattle.wf_lower_stmts.specs.Forms.{Form, when}
+use Rattle.wf_lower_stmts.specs.declared.walks.StartedNumbers.{StartedNumbers}
 use Rattle.wf_lower.specs.Bodies.{public_args, bytes_locals, further_locals, only_read, resume_of}
 use Rattle.wf_lower.specs.Unit.{is_used}
 
@@ -164,10 +165,11 @@ pub record IsSpelt (nodes : TypedNodes) : Type 0 where
   pub strings : list_all is_string nodes.statuses ≡ true
 
 -- The package keeps its rules, its names and texts are spelt so, and the table has the numbers of its points, which are small, and
--- the locals that its methods keep.
-pub record IsReady (nodes : TypedNodes) (points : PointTable) : Type 0 where
+-- the locals that its methods keep; the numbers that their started statements keep are these.
+pub record IsReady (nodes : TypedNodes) (points : PointTable) (kept : List StartedNumbers) : Type 0 where
   pub typed : IsTyped nodes
   pub spelt : IsSpelt nodes
   pub small : AreSmall points.numbers
   pub numbered : (s : ℕ) → number_at points.numbers s ≡ point_number (package_of nodes).methods s
   pub saved : points.saved ≡ map saved_locals (package_of nodes).methods
+  pub started : kept ≡ map started_of (package_of nodes).methods

@@ -4,13 +4,13 @@ use Rattle.wf_base.specs.BaseTable.{bits_of}
 use Rattle.wf_ast.specs.declared.types.Ty.{Ty}
 use Rattle.wf_ast.specs.declared.types.Ty.TheVariants as types
 use Rattle.wf_ast.specs.declared.variables.LocalId.{LocalId}
-use Rattle.wf_ast.specs.TypedTree.{Block}
 use Rattle.wf_ast.specs.TypedPackage.{MethodTree, PackageTree, Variable}
 use Rattle.c_text.specs.declared.kinds.CUint.TheVariants.{U8, U16, U64}
 use Rattle.c_text.specs.CTree.{uint, size, boolean, uint_pointer, text, plain, inside, FieldTree}
 use Rattle.wf_exprs.specs.Names.{point_field, saved_field, held_field, count_field, struct_type}
 use Rattle.wf_exprs.specs.Words.{literal, width_of}
-use Rattle.wf_lower_stmts.specs.Forms.{holds_something, counts_bytes, keeps}
+use Rattle.wf_lower_stmts.specs.BodyNodes.{started_of}
+use Rattle.wf_lower_stmts.specs.declared.walks.StartedNumbers.{StartedNumbers}
 use Rattle.wf_lower.specs.Unit.{field, coroutine_fields, kept_fields, kept_type}
 
 abbrev pub buffer_fields : List FieldTree
@@ -43,12 +43,12 @@ held_fields there method = if there then field (uint U64) (held_field method) �
 abbrev pub count_fields : (there : Bool) → (method : List ℕ) → List FieldTree
 count_fields there method = if there then field (uint U8) (count_field method) ∷ [] else []
 
-abbrev pub started_of : (method : List ℕ) → Block → List FieldTree
-started_of method body = held_fields (keeps holds_something body) method ++ count_fields (keeps counts_bytes body) method
+abbrev pub number_fields : (method : List ℕ) → StartedNumbers → List FieldTree
+number_fields method started = held_fields started.held method ++ count_fields started.counted method
 
 -- What a coroutine keeps, and what a method keeps in the struct with the number `s`.
 abbrev pub kept_of : MethodTree → List FieldTree
-kept_of m = field (uint U16) (point_field m.name) ∷ kept_fields m.name m.locals ++ started_of m.name m.body
+kept_of m = field (uint U16) (point_field m.name) ∷ kept_fields m.name m.locals ++ number_fields m.name (started_of m)
 
 abbrev pub method_fields : (s : ℕ) → MethodTree → List FieldTree
 method_fields s m = if nat_eq m.of s then coroutine_fields m else []

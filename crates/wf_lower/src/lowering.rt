@@ -20,10 +20,11 @@ ghost use Rattle.wf_lower.specs.Unit.{all_functions as all_functions_of, initial
 use crate::bodies::body_function;
 use crate::entries::entry_function;
 use crate::initializing::initialize_function;
+use crate::source::{Source, started_by_method};
 use crate::structs::{io_buffer, struct_item};
 use c_text::{CItem, CNameId, Unit};
 use std::alloc::Global;
-use wf_ast::{StructId, Typed};
+use wf_ast::StructId;
 use wf_base::Width;
 use wf_bounds::Accepted;
 use wf_exprs::names::put_numbered;
@@ -31,7 +32,6 @@ use wf_exprs::rated::saturating_name;
 use wf_exprs_nodes::helpers::{put_item, put_saturating};
 use wf_exprs_nodes::marks::{ReadNames, mark_code};
 use wf_lower_stmts::Body;
-use wf_points::table::Points;
 use wf_text::{MethodId, NoMemory, StatusId};
 
 /// Adds the names that a function reads.
@@ -60,14 +60,6 @@ fn names_read(alloc: Global, u: &Unit, functions: &[CItem]) -> Result<ReadNames,
     Ok(read)
 }
 
-/// What is lowered.
-#[derive(Clone, Copy)]
-struct Source<'a> {
-    alloc: Global,
-    t: &'a Typed,
-    points: &'a Points,
-}
-
 /// The function that makes an object of a struct ready.
 fn add_initialize(
     p: &Source,
@@ -75,7 +67,7 @@ fn add_initialize(
     s: u32,
     functions: &mut Vec<CItem>,
 ) -> Result<(), NoMemory>
-    requires ready { IsReady p.now.t.now p.now.points.now }
+    requires ready { IsReady p.now.t.now p.now.points.now p.now.started.now }
     requires known { s < length p.now.t.now.structs }
     ensures grows { Grows u.old u.new }
     ensures made { OnOk result (AddsFunctions u.old u.new functions.old.items functions.new.items (initialize_function_of (package_of p.now.t.now) s ∷ [])) }
@@ -93,7 +85,7 @@ fn put_into(items: &mut Vec<CItem>, item: CItem) -> Result<(), NoMemory>
 }
 
 fn add_all_initialize(p: &Source, u: &mut Unit, functions: &mut Vec<CItem>) -> Result<(), NoMemory>
-    requires { IsReady p.now.t.now p.now.points.now }
+    requires { IsReady p.now.t.now p.now.points.now p.now.started.now }
     ensures grows { Grows u.old u.new }
     ensures made { OnOk result (AddsFunctions u.old u.new functions.old.items functions.new.items (initialize_functions (package_of p.now.t.now) (package_of p.now.t.now).struct_order)) }
 {
@@ -112,12 +104,12 @@ fn add_body(
     functions: &mut Vec<CItem>,
     read: &mut ReadNames,
 ) -> Result<(), NoMemory>
-    requires ready { IsReady p.now.t.now p.now.points.now }
+    requires ready { IsReady p.now.t.now p.now.points.now p.now.started.now }
     requires known { m.0 < length p.now.t.now.methods }
     ensures grows { Grows u.old u.new }
     ensures made { OnOk result ((method : MethodTree) → slice_get (package_of p.now.t.now).methods m.0 ≡ Some method → AddsFunctions u.old u.new functions.old.items functions.new.items (body_function_of (form_of (package_of p.now.t.now) method) ∷ [])) }
 {
-    let b = Body::new(p.alloc, p.t, p.points, m);
+    let b = Body::new(p.alloc, p.t, p.points, p.started(m), m);
     let item = body_function(&b, u, p.t.body(m), read)?;
     put_into(functions, item)
 }
@@ -129,7 +121,7 @@ fn add_entry(
     m: MethodId,
     functions: &mut Vec<CItem>,
 ) -> Result<(), NoMemory>
-    requires ready { IsReady p.now.t.now p.now.points.now }
+    requires ready { IsReady p.now.t.now p.now.points.now p.now.started.now }
     requires known { m.0 < length p.now.t.now.methods }
     ensures grows { Grows u.old u.new }
     ensures made { OnOk result ((method : MethodTree) → slice_get (package_of p.now.t.now).methods m.0 ≡ Some method → AddsFunctions u.old u.new functions.old.items functions.new.items (entry_functions (package_of p.now.t.now) m.0 method)) }
@@ -150,7 +142,7 @@ fn add_method(
     functions: &mut Vec<CItem>,
     read: &mut ReadNames,
 ) -> Result<(), NoMemory>
-    requires ready { IsReady p.now.t.now p.now.points.now }
+    requires ready { IsReady p.now.t.now p.now.points.now p.now.started.now }
     requires known { m < length p.now.t.now.methods }
     ensures grows { Grows u.old u.new }
     ensures made { OnOk result (AddsFunctions u.old u.new functions.old.items functions.new.items (functions_of (package_of p.now.t.now) m (slice_get (package_of p.now.t.now).methods m))) }
@@ -160,7 +152,7 @@ fn add_method(
 }
 
 fn add_methods(p: &Source, u: &mut Unit, functions: &mut Vec<CItem>) -> Result<(), NoMemory>
-    requires { IsReady p.now.t.now p.now.points.now }
+    requires { IsReady p.now.t.now p.now.points.now p.now.started.now }
     ensures grows { Grows u.old u.new }
     ensures made { OnOk result (AddsFunctions u.old u.new functions.old.items functions.new.items (method_functions (package_of p.now.t.now) (package_of p.now.t.now).order)) }
 {
@@ -174,7 +166,7 @@ fn add_methods(p: &Source, u: &mut Unit, functions: &mut Vec<CItem>) -> Result<(
 
 /// All functions, in the order of the text.
 fn all_functions(p: &Source, u: &mut Unit) -> Result<Vec<CItem>, NoMemory>
-    requires { IsReady p.now.t.now p.now.points.now }
+    requires { IsReady p.now.t.now p.now.points.now p.now.started.now }
     ensures grows { Grows u.old u.new }
     ensures made { IfOk result (λ functions. HasFunctionTrees u.new functions.items (all_functions_of (package_of p.now.t.now))) }
 {
@@ -193,17 +185,17 @@ fn add_buffer(p: &Source, u: &mut Unit) -> Result<(), NoMemory>
 }
 
 fn add_struct(p: &Source, u: &mut Unit, s: u32) -> Result<(), NoMemory>
-    requires ready { IsReady p.now.t.now p.now.points.now }
+    requires ready { IsReady p.now.t.now p.now.points.now p.now.started.now }
     requires known { s < length p.now.t.now.structs }
     ensures { OnOk result (GrowsBy (struct_items (package_of p.now.t.now) (s ∷ [])) u.old u.new) }
 {
     u.is_sound();
-    let item = struct_item(p.alloc, p.t, p.points, u, StructId(s))?;
+    let item = struct_item(p, u, StructId(s))?;
     put_item(u, item)
 }
 
 fn add_structs(p: &Source, u: &mut Unit) -> Result<(), NoMemory>
-    requires { IsReady p.now.t.now p.now.points.now }
+    requires { IsReady p.now.t.now p.now.points.now p.now.started.now }
     ensures { OnOk result (GrowsBy (struct_items (package_of p.now.t.now) (package_of p.now.t.now).struct_order) u.old u.new) }
 {
     let order = p.t.struct_order();
@@ -226,7 +218,7 @@ fn put_text(u: &mut Unit, name: CNameId, bytes: &[u8]) -> Result<(), NoMemory>
 
 /// A status, where a function reads it.
 fn add_text(p: &Source, u: &mut Unit, n: u32, read: &ReadNames) -> Result<(), NoMemory>
-    requires ready { IsReady p.now.t.now p.now.points.now }
+    requires ready { IsReady p.now.t.now p.now.points.now p.now.started.now }
     requires known { n < length p.now.t.now.statuses }
     ensures { OnOk result ((functions : List ItemTree) → AreRead functions u.old.names read.now → (text : List ℕ) → slice_get p.now.t.now.statuses n ≡ Some text → GrowsBy (used_texts functions n (text ∷ [])) u.old u.new) }
 {
@@ -240,7 +232,7 @@ fn add_text(p: &Source, u: &mut Unit, n: u32, read: &ReadNames) -> Result<(), No
 }
 
 fn add_texts(p: &Source, u: &mut Unit, read: &ReadNames) -> Result<(), NoMemory>
-    requires { IsReady p.now.t.now p.now.points.now }
+    requires { IsReady p.now.t.now p.now.points.now p.now.started.now }
     ensures { OnOk result ((functions : List ItemTree) → AreRead functions u.old.names read.now → GrowsBy (used_texts functions 0 p.now.t.now.statuses) u.old u.new) }
 {
     for n in 0..p.t.statuses() {
@@ -297,7 +289,7 @@ fn add_functions(u: &mut Unit, functions: Vec<CItem>) -> Result<(), NoMemory>
 
 /// The items before the functions, where these read these names.
 fn add_before(p: &Source, u: &mut Unit, read: &ReadNames) -> Result<(), NoMemory>
-    requires { IsReady p.now.t.now p.now.points.now }
+    requires { IsReady p.now.t.now p.now.points.now p.now.started.now }
     ensures { OnOk result ((functions : List ItemTree) → AreRead functions u.old.names read.now → GrowsBy (items_before (package_of p.now.t.now) functions) u.old u.new) }
 {
     add_buffer(p, u)?;
@@ -308,7 +300,7 @@ fn add_before(p: &Source, u: &mut Unit, read: &ReadNames) -> Result<(), NoMemory
 
 /// The items of the text.
 fn add_items(p: &Source, u: &mut Unit) -> Result<(), NoMemory>
-    requires { IsReady p.now.t.now p.now.points.now }
+    requires { IsReady p.now.t.now p.now.points.now p.now.started.now }
     ensures { OnOk result (GrowsBy (lowered_unit (package_of p.now.t.now)) u.old u.new) }
 {
     u.is_sound();
@@ -324,11 +316,14 @@ pub fn lower(alloc: Global, a: &Accepted) -> Result<Unit, NoMemory>
     requires { IsSpelt a.now.nodes }
     ensures { IfOk result (λ u. unit_tree u ≡ lowered_unit (package_of a.now.nodes)) }
 {
+    let t = a.typed();
+    let started = started_by_method(alloc, t)?;
     let mut u = Unit::new(alloc);
     let p = Source {
         alloc,
-        t: a.typed(),
+        t,
         points: a.points(),
+        started: started.as_slice(),
     };
     add_items(&p, &mut u)?;
     Ok(u)

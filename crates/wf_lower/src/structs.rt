@@ -3,9 +3,7 @@
 
 ghost use Rattle.std.specs.Prelude.{◌≡◌, ◌<◌, ◌&&◌, ◌++◌, ◌∷◌, [], true, if◌then◌else◌, codes, length, map, nat_eq, slice_get, Some, None, IsTrue, IfOk, OnOk};
 ghost use Rattle.std.specs.List.{list_all};
-ghost use Rattle.wf_ast.specs.TypedInvariant.{IsTyped, block_below};
-ghost use Rattle.wf_ast.specs.TypedPackage.{MethodTree, method_of, package_of, variable_of};
-ghost use Rattle.wf_ast.specs.TypedTrees.{block_of};
+ghost use Rattle.wf_ast.specs.TypedPackage.{MethodTree, package_of, variable_of};
 ghost use Rattle.wf_ast.specs.WellTyped.{is_coroutine as is_marked_coroutine, may_be_field};
 ghost use Rattle.c_text.specs.CFits.{HasType};
 ghost use Rattle.c_text.specs.CGrammar.{IsName};
@@ -18,21 +16,21 @@ ghost use Rattle.c_text.specs.CTree as c;
 ghost use Rattle.wf_exprs.specs.Grown.{Grows};
 ghost use Rattle.wf_exprs.specs.Names.{point_field as point_name, struct_type as type_name};
 ghost use Rattle.wf_exprs.specs.Scopes.{is_named};
-ghost use Rattle.wf_points.specs.PointNumbers.{locals_kept, saved_locals};
-ghost use Rattle.wf_lower_stmts.specs.BodyNodes.{HasWords, is_spelt_method};
-ghost use Rattle.wf_lower.specs.Made.{AddsFields, HasFieldTree, HasFieldTrees, HasItemTree, IsPlain};
-ghost use Rattle.wf_lower.specs.Structs.{buffer_fields as buffer_fields_of, kept_field, kept_of, method_fields, started_of, typed_field as typed_field_of};
+ghost use Rattle.wf_points.specs.PointNumbers.{locals_kept};
+ghost use Rattle.wf_lower_stmts.specs.BodyNodes.{HasWords};
+ghost use Rattle.wf_lower.specs.Made.{AddsFields, HasFieldTree, HasFieldTrees, HasItemTree, IsPlain, IsReady};
+ghost use Rattle.wf_lower.specs.Structs.{buffer_fields as buffer_fields_of, kept_field, kept_of, method_fields, number_fields, typed_field as typed_field_of};
 ghost use Rattle.wf_lower.specs.Unit.{field as field_of, io_buffer_item, kept_fields, kept_type as kept_type_of, methods_fields, source_field as source_field_of, source_fields, struct_fields as struct_fields_of};
 
+use crate::source::Source;
 use c_text::{CField, CFieldType, CItem, CList, CNameId, CType, CUint, Unit};
 use std::alloc::Global;
-use wf_ast::{Block, LocalId, Method, StructId, Ty, Typed, Var};
+use wf_ast::{LocalId, Method, StructId, Ty, Typed, Var};
 use wf_base::Mark;
 use wf_exprs::names::{put_name, put_spelt};
 use wf_exprs::nodes::{literal, uint_of};
 use wf_lower_stmts::spelling::{point_field, saved_field, struct_type};
-use wf_lower_stmts::walks::{keeps_count, keeps_held};
-use wf_points::table::Points;
+use wf_lower_stmts::walks::StartedNumbers;
 use wf_text::{MethodId, NoMemory};
 
 /// A field that holds one value.
@@ -280,24 +278,19 @@ fn add_number(
     }
 }
 
-/// Adds the fields that keep what a started statement has.
+/// Adds the fields of the numbers that the started statements of a method keep.
 fn add_started(
-    t: &Typed,
     u: &mut Unit,
     method: &[u8],
-    body: &Block,
+    started: StartedNumbers,
     fields: &mut CList<CField>,
 ) -> Result<(), NoMemory>
-    requires typed { IsTyped t.now }
-    requires word { list_all is_word_byte method.now ≡ true }
-    requires body { IsTrue (block_below (length t.now.stmts) body.now) }
+    requires { list_all is_word_byte method.now ≡ true }
     ensures grows { Grows u.old u.new }
-    ensures made { OnOk result (AddsFields u.old u.new fields.old fields.new (started_of method.now (block_of t.now body.now))) }
+    ensures made { OnOk result (AddsFields u.old u.new fields.old fields.new (number_fields method.now started)) }
 {
-    let held = keeps_held(t, body);
-    let counted = keeps_count(t, body);
-    add_number(u, held, CUint::U64, b"h_", method, fields)?;
-    add_number(u, counted, CUint::U8, b"n_", method, fields)
+    add_number(u, started.held, CUint::U64, b"h_", method, fields)?;
+    add_number(u, started.counted, CUint::U8, b"n_", method, fields)
 }
 
 /// Adds the field that keeps where a coroutine goes on.
@@ -310,26 +303,30 @@ fn add_point(u: &mut Unit, method: &[u8], fields: &mut CList<CField>) -> Result<
     add_named(u, CType::Uint(CUint::U16), name, fields)
 }
 
-/// Adds what a coroutine keeps, which is of its locals `saved`.
+/// Adds what a coroutine keeps.
 fn add_coroutine(
-    t: &Typed,
+    p: &Source,
     u: &mut Unit,
-    m: &Method,
-    body: &Block,
-    saved: &[LocalId],
+    m: MethodId,
     fields: &mut CList<CField>,
 ) -> Result<(), NoMemory>
-    requires typed { IsTyped t.now }
-    requires spelt { is_spelt_method t.now m.now ≡ true }
-    requires body { IsTrue (block_below (length t.now.stmts) body.now) }
-    requires saved { saved.now ≡ saved_locals (method_of t.now m.now body.now) }
+    requires ready { IsReady p.now.t.now p.now.points.now p.now.started.now }
+    requires known { m.0 < length p.now.t.now.methods }
     ensures grows { Grows u.old u.new }
-    ensures made { OnOk result (AddsFields u.old u.new fields.old fields.new (kept_of (method_of t.now m.now body.now))) }
+    ensures made { OnOk result ((method : MethodTree) → slice_get (package_of p.now.t.now).methods m.0 ≡ Some method → AddsFields u.old u.new fields.old fields.new (kept_of method)) }
 {
-    let name = t.text(m.name);
+    let method = p.t.method(m);
+    let name = p.t.text(method.name);
     add_point(u, name, fields)?;
-    add_all_kept(t, u, name, m.locals.as_slice(), saved, fields)?;
-    add_started(t, u, name, body, fields)
+    add_all_kept(
+        p.t,
+        u,
+        name,
+        method.locals.as_slice(),
+        p.points.saved(m),
+        fields,
+    )?;
+    add_started(u, name, p.started(m), fields)
 }
 
 fn is_coroutine(mark: Mark) -> bool
@@ -347,23 +344,19 @@ fn keeps_in(m: &Method, s: StructId) -> bool
 
 /// Adds what a method keeps in the struct `s`: nothing where it isn't a coroutine of that struct.
 fn add_method(
-    t: &Typed,
-    points: &Points,
+    p: &Source,
     u: &mut Unit,
     s: StructId,
     m: MethodId,
     fields: &mut CList<CField>,
 ) -> Result<(), NoMemory>
-    requires typed { IsTyped t.now }
-    requires words { HasWords t.now }
-    requires saved { points.now.saved ≡ map saved_locals (package_of t.now).methods }
-    requires known { m.0 < length t.now.methods }
+    requires ready { IsReady p.now.t.now p.now.points.now p.now.started.now }
+    requires known { m.0 < length p.now.t.now.methods }
     ensures grows { Grows u.old u.new }
-    ensures made { OnOk result ((method : MethodTree) → slice_get (package_of t.now).methods m.0 ≡ Some method → AddsFields u.old u.new fields.old fields.new (method_fields s.0 method)) }
+    ensures made { OnOk result ((method : MethodTree) → slice_get (package_of p.now.t.now).methods m.0 ≡ Some method → AddsFields u.old u.new fields.old fields.new (method_fields s.0 method)) }
 {
-    let method = t.method(m);
-    if keeps_in(method, s) {
-        add_coroutine(t, u, method, t.body(m), points.saved(m), fields)
+    if keeps_in(p.t.method(m), s) {
+        add_coroutine(p, u, m, fields)
     } else {
         Ok(())
     }
@@ -371,20 +364,17 @@ fn add_method(
 
 /// Adds what the coroutines of a struct keep.
 fn add_methods(
-    t: &Typed,
-    points: &Points,
+    p: &Source,
     u: &mut Unit,
     s: StructId,
     fields: &mut CList<CField>,
 ) -> Result<(), NoMemory>
-    requires typed { IsTyped t.now }
-    requires words { HasWords t.now }
-    requires saved { points.now.saved ≡ map saved_locals (package_of t.now).methods }
+    requires { IsReady p.now.t.now p.now.points.now p.now.started.now }
     ensures grows { Grows u.old u.new }
-    ensures made { OnOk result (AddsFields u.old u.new fields.old fields.new (methods_fields s.0 (package_of t.now).methods)) }
+    ensures made { OnOk result (AddsFields u.old u.new fields.old fields.new (methods_fields s.0 (package_of p.now.t.now).methods)) }
 {
-    for n in 0..t.methods() {
-        add_method(t, points, u, s, MethodId(n), fields)?;
+    for n in 0..p.t.methods() {
+        add_method(p, u, s, MethodId(n), fields)?;
     }
     Ok(())
 }
@@ -400,43 +390,27 @@ fn add_life(u: &mut Unit, fields: &mut CList<CField>) -> Result<(), NoMemory>
 }
 
 /// The fields of a struct.
-fn struct_fields(
-    alloc: Global,
-    t: &Typed,
-    points: &Points,
-    u: &mut Unit,
-    s: StructId,
-) -> Result<CList<CField>, NoMemory>
-    requires typed { IsTyped t.now }
-    requires words { HasWords t.now }
-    requires saved { points.now.saved ≡ map saved_locals (package_of t.now).methods }
-    requires known { s.0 < length t.now.structs }
+fn struct_fields(p: &Source, u: &mut Unit, s: StructId) -> Result<CList<CField>, NoMemory>
+    requires ready { IsReady p.now.t.now p.now.points.now p.now.started.now }
+    requires known { s.0 < length p.now.t.now.structs }
     ensures grows { Grows u.old u.new }
-    ensures made { IfOk result (λ list. HasFieldTrees u.new list (struct_fields_of (package_of t.now) s.0)) }
+    ensures made { IfOk result (λ list. HasFieldTrees u.new list (struct_fields_of (package_of p.now.t.now) s.0)) }
 {
-    let mut fields = CList::new(alloc);
+    let mut fields = CList::new(p.alloc);
     add_life(u, &mut fields)?;
-    add_all_source(t, u, t.structure(s).fields.as_slice(), &mut fields)?;
-    add_methods(t, points, u, s, &mut fields)?;
+    add_all_source(p.t, u, p.t.structure(s).fields.as_slice(), &mut fields)?;
+    add_methods(p, u, s, &mut fields)?;
     Ok(fields)
 }
 
 /// A struct.
-pub(crate) fn struct_item(
-    alloc: Global,
-    t: &Typed,
-    points: &Points,
-    u: &mut Unit,
-    s: StructId,
-) -> Result<CItem, NoMemory>
-    requires typed { IsTyped t.now }
-    requires words { HasWords t.now }
-    requires saved { points.now.saved ≡ map saved_locals (package_of t.now).methods }
-    requires known { s.0 < length t.now.structs }
+pub(crate) fn struct_item(p: &Source, u: &mut Unit, s: StructId) -> Result<CItem, NoMemory>
+    requires ready { IsReady p.now.t.now p.now.points.now p.now.started.now }
+    requires known { s.0 < length p.now.t.now.structs }
     ensures grows { Grows u.old u.new }
-    ensures made { IfOk result (λ it. HasItemTree u.new it (c.struct_item (struct_fields_of (package_of t.now) s.0) (type_name (package_of t.now) s.0))) }
+    ensures made { IfOk result (λ it. HasItemTree u.new it (c.struct_item (struct_fields_of (package_of p.now.t.now) s.0) (type_name (package_of p.now.t.now) s.0))) }
 {
-    let fields = struct_fields(alloc, t, points, u, s)?;
-    let name = struct_type(t, u, s)?;
+    let fields = struct_fields(p, u, s)?;
+    let name = struct_type(p.t, u, s)?;
     Ok(CItem::Struct { fields, name })
 }

@@ -19,7 +19,7 @@ use Rattle.wf_ast.specs.declared.typed_nodes.TypedNodes.{TypedNodes}
 use Rattle.wf_ast.specs.declared.types.Ty.{Ty}
 use Rattle.wf_ast.specs.declared.variables.LocalId.{LocalId}
 use Rattle.wf_ast.specs.TypedInvariant.{IsTyped, is_expr, has_few_variables}
-use Rattle.wf_ast.specs.TypedPackage.{Variable, package_of, method_of}
+use Rattle.wf_ast.specs.TypedPackage.{Variable, MethodTree, package_of, method_of}
 use Rattle.wf_ast.specs.TypedTree.{ValueTree, Simple, break_from, continue_in, give_back, Site, Block, end, plain, choose, loop, Target, to_element, to_flag, to_slice, to_nothing}
 use Rattle.wf_ast.specs.TypedTrees.{no_place, block_of, text_of, tree_of, onto, stmt_makers}
 use Rattle.wf_ast.specs.WellTyped.{io_handed, is_that}
@@ -42,6 +42,7 @@ use Rattle.wf_lower_stmts.specs.declared.targets.Target.{Target as TargetNode}
 use Rattle.wf_lower_stmts.specs.declared.targets.Target.TheVariants as targets
 use Rattle.wf_lower_stmts.specs.declared.walks.Sought.{Sought}
 use Rattle.wf_lower_stmts.specs.declared.walks.Sought.TheVariants as sought
+use Rattle.wf_lower_stmts.specs.declared.walks.StartedNumbers.{StartedNumbers}
 
 pub record BodyTree : Type 0 where
   pub nodes : TypedNodes
@@ -79,15 +80,21 @@ pub record HasWords (nodes : TypedNodes) : Type 0 where
 abbrev pub AreSmall : List (Option ℕ) → Type 0
 AreSmall numbers = (s : ℕ) → point_at numbers s < 2 ^ 31
 
--- The names, the method, its body and the locals that it keeps belong to one package.
-pub record IsBody (scope : ScopeTree) (nodes : TypedNodes) (numbers : List (Option ℕ)) (m : Method) (body : typed_code.Block) (saved : List LocalId) (held counted returned : Bool) : Type 0 where
+-- Which numbers the started statements of a block keep, and those of a method.
+abbrev pub started_in : Block → StartedNumbers
+started_in body = record { held = keeps holds_something body; counted = keeps counts_bytes body }
+
+abbrev pub started_of : MethodTree → StartedNumbers
+started_of m = started_in m.body
+
+-- The names, the method, its body and what it keeps belong to one package.
+pub record IsBody (scope : ScopeTree) (nodes : TypedNodes) (numbers : List (Option ℕ)) (m : Method) (body : typed_code.Block) (saved : List LocalId) (started : StartedNumbers) (returned : Bool) : Type 0 where
   pub typed : IsTyped nodes
   pub words : HasWords nodes
   pub same_nodes : scope.nodes ≡ nodes
   pub same_names : scope.names ≡ names_of (package_of nodes) (method_of nodes m body)
   pub saved_same : saved ≡ saved_locals (method_of nodes m body)
-  pub held_same : held ≡ keeps holds_something (block_of nodes body)
-  pub counted_same : counted ≡ keeps counts_bytes (block_of nodes body)
+  pub started_same : started ≡ started_in (block_of nodes body)
   pub returned_same : returned ≡ returns (block_of nodes body)
   pub spelt : is_spelt_method nodes m ≡ true
   pub few : has_few_variables m ≡ true

@@ -1,18 +1,18 @@
-// The body of a method that is lowered: the method, its names, its points, and the locals that it keeps at one.
+// The body of a method that is lowered: the method, its names, its points, and what it keeps at one.
 
 ghost use Rattle.std.specs.Prelude.{◌≡◌, ◌<◌, ◌≤◌, ◌^◌, true, length, map, slice_get, Some};
 ghost use Rattle.std.specs.List.{list_all};
 ghost use Rattle.wf_ast.specs.TypedInvariant.{IsTyped};
-ghost use Rattle.wf_ast.specs.TypedPackage.{package_of};
+ghost use Rattle.wf_ast.specs.TypedPackage.{MethodTree, package_of};
 ghost use Rattle.wf_ast.specs.WellTyped.{is_coroutine as is_marked_coroutine};
 ghost use Rattle.wf_points.specs.PointNumbers.{saved_locals};
 ghost use Rattle.c_text.specs.CSpelling.{is_word_byte};
 ghost use Rattle.wf_exprs.specs.Scopes.{are_named};
-ghost use Rattle.wf_lower_stmts.specs.BodyNodes.{AreSmall, HasWords, form_in, is_spelt_method, point_at};
+ghost use Rattle.wf_lower_stmts.specs.BodyNodes.{AreSmall, HasWords, form_in, is_spelt_method, point_at, started_of};
 ghost use Rattle.wf_lower_stmts.specs.Forms.{counts_bytes, holds_something, keeps};
 ghost use Rattle.wf_lower_stmts.specs.Lower.{returns as returns_in};
 
-use crate::walks::{keeps_count, keeps_held, returns};
+use crate::walks::{StartedNumbers, returns};
 use std::alloc::Global;
 use std::marker::Model;
 use wf_ast::{Block, LocalId, Method, StmtId, Typed, Var};
@@ -30,8 +30,7 @@ pub struct Body<'a> {
     method: &'a Method,
     body: &'a Block,
     saved: &'a [LocalId],
-    keeps_held: bool,
-    keeps_count: bool,
+    started: StartedNumbers,
     returns: bool,
 }
 
@@ -42,17 +41,24 @@ impl<'a> Model for Body<'a> {
 
     ghost view = { λ b. record { nodes = b.t.now; method = b.method.now; body = b.body.now; numbers = b.points.now.numbers } };
 
-    ghost invariant = { λ b. IsBody b.scope b.t.now b.points.now.numbers b.method.now b.body.now b.saved.now b.keeps_held b.keeps_count b.returns };
+    ghost invariant = { λ b. IsBody b.scope b.t.now b.points.now.numbers b.method.now b.body.now b.saved.now b.started b.returns };
 }
 
 impl<'a> Body<'a> {
-    /// The body of the method with this number.
-    pub fn new(alloc: Global, t: &'a Typed, points: &'a Points, m: MethodId) -> Body<'a>
+    /// The body of the method with this number, whose started statements keep the numbers `started`.
+    pub fn new(
+        alloc: Global,
+        t: &'a Typed,
+        points: &'a Points,
+        started: StartedNumbers,
+        m: MethodId,
+    ) -> Body<'a>
         requires typed { IsTyped t.now }
         requires known { m.0 < length t.now.methods }
         requires words { HasWords t.now }
         requires small { AreSmall points.now.numbers }
         requires saved { points.now.saved ≡ map saved_locals (package_of t.now).methods }
+        requires started { (method : MethodTree) → slice_get (package_of t.now).methods m.0 ≡ Some method → started ≡ started_of method }
         ensures nodes { result.nodes ≡ t.now }
         ensures numbers { result.numbers ≡ points.now.numbers }
         ensures form { slice_get (package_of t.now).methods m.0 ≡ Some (form_in result).method }
@@ -73,8 +79,7 @@ impl<'a> Body<'a> {
             method,
             body,
             saved: points.saved(m),
-            keeps_held: keeps_held(t, body),
-            keeps_count: keeps_count(t, body),
+            started,
             returns: returns(t, body),
         }
     }
@@ -165,14 +170,14 @@ impl<'a> Body<'a> {
     pub(crate) fn keeps_held(&self) -> bool
         ensures { result ≡ keeps holds_something (form_in self.now).method.body }
     {
-        self.keeps_held
+        self.started.held
     }
 
     /// Whether the method keeps how many bytes that is.
     pub(crate) fn keeps_count(&self) -> bool
         ensures { result ≡ keeps counts_bytes (form_in self.now).method.body }
     {
-        self.keeps_count
+        self.started.counted
     }
 
     /// Whether a `return` stands in the method.

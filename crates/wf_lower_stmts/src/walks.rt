@@ -7,12 +7,21 @@ ghost use Rattle.wf_ast.specs.TypedTree.{break_from, continue_in, give_back};
 ghost use Rattle.wf_ast.specs.TypedTrees.{block_of, tree_of, type_of_node};
 ghost use Rattle.wf_ast.specs.WellTyped.{breaks as breaks_in};
 ghost use Rattle.wf_ast.specs.NodeKinds.{is_number_at, node_number};
-ghost use Rattle.wf_lower_stmts.specs.BodyNodes.{base_counts, base_holds, base_sought, call_sought, is_sought, stands, stands_among, stands_at, stands_in_arms, stands_in_else, stands_in_if as among_if, stands_of};
-ghost use Rattle.wf_lower_stmts.specs.Forms.{counts_bytes, holds_something, keeps, stays as stays_number};
+ghost use Rattle.wf_lower_stmts.specs.BodyNodes.{base_counts, base_holds, base_sought, call_sought, is_sought, stands, stands_among, stands_at, stands_in_arms, stands_in_else, stands_in_if as among_if, stands_of, started_in};
+ghost use Rattle.wf_lower_stmts.specs.Forms.{stays as stays_number};
 ghost use Rattle.wf_lower_stmts.specs.Lower.{continues as continues_in, returns as returns_in};
 
 use wf_ast::{Arm, Block, Callee, Expr, ExprId, Stmt, StmtId, Ty, Typed};
 use wf_base::{BaseSig, ReadForm};
+
+/// Which numbers the started statements of a method keep in its struct while it is suspended.
+#[derive(Clone, Copy)]
+pub struct StartedNumbers {
+    /// What one has: a read what it has read so far, a skip how many bytes are left to take, a write its byte.
+    pub held: bool,
+    /// How many bytes a read has read so far.
+    pub counted: bool,
+}
 
 /// What is looked for.
 #[derive(Clone, Copy)]
@@ -47,22 +56,16 @@ pub fn continues(t: &Typed, w: StmtId, body: &Block) -> bool
     stands_in_body(t, Sought::Continue(w), body)
 }
 
-/// Whether a statement of the block has something to keep where it suspends.
-pub fn keeps_held(t: &Typed, body: &Block) -> bool
+/// Which numbers the statements of a method's body keep where they suspend.
+pub fn find_started(t: &Typed, body: &Block) -> StartedNumbers
     requires typed { IsTyped t.now }
     requires known { IsTrue (block_below (length t.now.stmts) body.now) }
-    ensures { result ≡ keeps holds_something (block_of t.now body.now) }
+    ensures { result ≡ started_in (block_of t.now body.now) }
 {
-    stands_in_body(t, Sought::Held, body)
-}
-
-/// Whether a statement of the block has counted bytes where it suspends.
-pub fn keeps_count(t: &Typed, body: &Block) -> bool
-    requires typed { IsTyped t.now }
-    requires known { IsTrue (block_below (length t.now.stmts) body.now) }
-    ensures { result ≡ keeps counts_bytes (block_of t.now body.now) }
-{
-    stands_in_body(t, Sought::Counted, body)
+    StartedNumbers {
+        held: stands_in_body(t, Sought::Held, body),
+        counted: stands_in_body(t, Sought::Counted, body),
+    }
 }
 
 /// Whether a `return` stands in the block.

@@ -1,11 +1,14 @@
 use Rattle.std.proofs.Common.{◌∙◌, ap}
 use Rattle.wf_ast.specs.TypedPackage.{package_of}
 use Rattle.wf_lower.specs.Unit.{lowered_unit}
-use Rattle.wf_lower.proofs.Whole.{ready, whole_text}
+use Rattle.wf_lower.proofs.Whole.{ready, typed_as, whole_text}
 use Rattle.wf_lower.proofs.lowering.lower.Goals as goal
 
+pub started_by_method-requires : goal.started_by_method-requires
+started_by_method-requires c = typed_as c.args.a.now c.typed-t.ensures.kept c.typed-t.result.now c.typed-t.ensures.same
+
 pub add_items-requires : goal.add_items-requires
-add_items-requires c = ready c.args.a.now c.typed.ensures.kept c.requires c.typed.result.now c.points.result.now c.typed.ensures.same c.points.ensures.same
+add_items-requires c = ready c.as_slice.result.now c.args.a.now c.typed-t.ensures.kept c.requires c.typed-t.result.now c.points.result.now c.typed-t.ensures.same c.points.ensures.same (c.as_slice.ensures ∙ c.in_ok-started.ensures)
 
 pub returns : goal.returns
-returns c = whole_text c.new-u.result _ _ c.new-u.ensures c.in_ok-add_items.ensures ∙ ap (λ t. lowered_unit (package_of t)) c.typed.ensures.same
+returns c = whole_text c.new-u.result _ _ c.new-u.ensures c.in_ok-add_items.ensures ∙ ap (λ t. lowered_unit (package_of t)) c.typed-t.ensures.same

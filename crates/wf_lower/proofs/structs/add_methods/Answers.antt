@@ -17,7 +17,7 @@ returns-in_err-add_method-clause-grows c = grows_on c.loop-n.invariant.grows c.a
 
 pub loop-n-preserved : goal.loop-n-preserved
 loop-n-preserved c =
-    let nodes = c.args.t.now in
+    let nodes = c.args.p.now.t.now in
     let s = c.args.s.0 in
     let inv = c.loop-n.invariant in
     let same = methods_same nodes c.requires.typed in
@@ -32,7 +32,7 @@ loop-n-preserved c =
 
 pub returns-clause-made : goal.returns-clause-made
 returns-clause-made c =
-    let nodes = c.args.t.now in
+    let nodes = c.args.p.now.t.now in
     let s = c.args.s.0 in
     let inv = c.loop-n.invariant in
     let same = methods_same nodes c.requires.typed in

@@ -12,5 +12,5 @@ invariant-loop-n l = record {
   grows : Grows l.fn.u l.u;
   added : List FieldTree;
   adds : AddsFields l.fn.u l.u l.fn.fields l.fields added;
-  left : added ++ methods_fields l.s.0 (drop l.n (package_of l.t).methods) ≡ methods_fields l.s.0 (package_of l.t).methods;
+  left : added ++ methods_fields l.s.0 (drop l.n (package_of l.p.t.now).methods) ≡ methods_fields l.s.0 (package_of l.p.t.now).methods;
 }

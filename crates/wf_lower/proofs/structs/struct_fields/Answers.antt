@@ -15,10 +15,10 @@ use Rattle.wf_lower.proofs.Known.{fields_are, fields_held, fields_named}
 use Rattle.wf_lower.proofs.structs.struct_fields.Goals as goal
 
 pub add_all_source-requires-clause-named : goal.add_all_source-requires-clause-named
-add_all_source-requires-clause-named c = ap (are_named c.args.t.now) c.as_slice.ensures ∙ fields_named c.args.t.now c.requires.words c.args.s.0 c.structure.result.now c.structure.ensures
+add_all_source-requires-clause-named c = ap (are_named c.args.p.now.t.now) c.as_slice.ensures ∙ fields_named c.args.p.now.t.now c.requires.ready.spelt.words c.args.s.0 c.structure.result.now c.structure.ensures
 
 pub add_all_source-requires-clause-held : goal.add_all_source-requires-clause-held
-add_all_source-requires-clause-held c = ap (list_all (λ (x : Var). may_be_field (package_of c.args.t.now) x.ty)) c.as_slice.ensures ∙ fields_held c.args.t.now c.requires.typed c.args.s.0 c.structure.result.now c.structure.ensures
+add_all_source-requires-clause-held c = ap (list_all (λ (x : Var). may_be_field (package_of c.args.p.now.t.now) x.ty)) c.as_slice.ensures ∙ fields_held c.args.p.now.t.now c.requires.ready.typed c.args.s.0 c.structure.result.now c.structure.ensures
 
 pub returns-in_err-add_methods-clause-grows : goal.returns-in_err-add_methods-clause-grows
 returns-in_err-add_methods-clause-grows c = grows_on (grows_on c.add_life.ensures.grows c.add_all_source.ensures.grows) c.add_methods.ensures.grows
@@ -28,7 +28,7 @@ returns-clause-grows c = grows_on (grows_on c.add_life.ensures.grows c.add_all_s
 
 pub returns-clause-made : goal.returns-clause-made
 returns-clause-made c =
-    let nodes = c.args.t.now in
+    let nodes = c.args.p.now.t.now in
     let p = package_of nodes in
     let P : List CField → Type 0 = λ fs. HasFieldTrees c.args.u.now fs [] in
     let none : HasFieldTrees c.args.u.now c.new-fields.result [] = subst P (sym c.new-fields.ensures) (record { there = tt; are = refl }) in

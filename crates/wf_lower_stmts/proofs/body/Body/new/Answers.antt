@@ -1,4 +1,5 @@
 use Rattle.std.proofs.Common.{ap}
+use Rattle.wf_ast.specs.TypedPackage.{method_of}
 use Rattle.wf_exprs.specs.Scopes.{ScopeTree}
 use Rattle.wf_lower_stmts.proofs.BodyLaws.{body_known, form_is, is_scoped, method_few, method_spelt, names_same, saved_known, saved_same}
 use Rattle.wf_lower_stmts.proofs.WordLaws.{spelt_known}
@@ -19,12 +20,6 @@ new-requires c =
 pub saved-requires : goal.saved-requires
 saved-requires c = saved_known c.args.t.now c.args.m.0 c.method-method.result.now c.body-body.result.now c.method-method.ensures c.body-body.ensures c.args.points.now.saved c.requires.saved
 
-pub keeps_held-requires-clause-known : goal.keeps_held-requires-clause-known
-keeps_held-requires-clause-known c = body_known c.args.t.now c.args.m.0 c.body-body.result.now c.requires.typed c.body-body.ensures
-
-pub keeps_count-requires-clause-known : goal.keeps_count-requires-clause-known
-keeps_count-requires-clause-known c = body_known c.args.t.now c.args.m.0 c.body-body.result.now c.requires.typed c.body-body.ensures
-
 pub returns-requires-clause-known : goal.returns-requires-clause-known
 returns-requires-clause-known c = body_known c.args.t.now c.args.m.0 c.body-body.result.now c.requires.typed c.body-body.ensures
 
@@ -39,8 +34,7 @@ invariant_of-result c =
       same_names = names_same nodes m c.structure-of.result.now c.structure-of.ensures c.as_slice.result.now c.as_slice-2.result.now c.as_slice-3.result.now c.as_slice.ensures c.as_slice-2.ensures c.as_slice-3.ensures
           c.body-body.result.now c.new.result c.new.ensures;
       saved_same = saved_same nodes c.args.m.0 m c.body-body.result.now c.method-method.ensures c.body-body.ensures c.args.points.now.saved c.requires.saved c.saved.result.now c.saved.ensures;
-      held_same = c.keeps_held.ensures;
-      counted_same = c.keeps_count.ensures;
+      started_same = c.requires.started (method_of nodes m c.body-body.result.now) (form_is nodes c.args.m.0 m c.body-body.result.now c.method-method.ensures c.body-body.ensures);
       returned_same = c.returns.ensures;
       spelt = method_spelt nodes c.args.m.0 m c.requires.words c.method-method.ensures;
       few = method_few nodes c.args.m.0 m c.requires.typed c.method-method.ensures;

@@ -1,0 +1,47 @@
+// What is lowered: a typed package with its points, and which numbers the started statements of its methods keep.
+
+ghost use Rattle.std.specs.Prelude.{◌≡◌, ◌<◌, length, map, slice_get, Some, IfOk};
+ghost use Rattle.wf_ast.specs.TypedInvariant.{IsTyped};
+ghost use Rattle.wf_ast.specs.TypedPackage.{package_of};
+ghost use Rattle.wf_lower_stmts.specs.BodyNodes.{started_of};
+
+use std::alloc::Global;
+use wf_ast::{Sequence, Typed};
+use wf_lower_stmts::walks::{StartedNumbers, find_started};
+use wf_points::table::Points;
+use wf_text::{MethodId, NoMemory};
+
+/// What is lowered.
+#[derive(Clone, Copy)]
+pub(crate) struct Source<'a> {
+    pub(crate) alloc: Global,
+    pub(crate) t: &'a Typed,
+    pub(crate) points: &'a Points,
+    /// The numbers that started statements keep, of each method.
+    pub(crate) started: &'a [StartedNumbers],
+}
+
+impl<'a> Source<'a> {
+    /// The numbers that the started statements of a method keep.
+    pub(crate) fn started(&self, m: MethodId) -> StartedNumbers
+        requires { m.0 < length self.now.started.now }
+        ensures { slice_get self.now.started.now m.0 ≡ Some result }
+    {
+        self.started[m.0 as usize]
+    }
+}
+
+/// The numbers that the started statements of each method keep.
+pub(crate) fn started_by_method(
+    alloc: Global,
+    t: &Typed,
+) -> Result<Sequence<StartedNumbers>, NoMemory>
+    requires { IsTyped t.now }
+    ensures { IfOk result (λ started. started ≡ map started_of (package_of t.now).methods) }
+{
+    let mut started = Sequence::new(alloc);
+    for m in 0..t.methods() {
+        started.push(find_started(t, t.body(MethodId(m))))?;
+    }
+    Ok(started)
+}
