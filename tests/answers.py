@@ -158,7 +158,8 @@ ANSWERS += [(f"one file: {text[:60]!r}", {"k.wuffs": text}, "check k k.wuffs", l
 ANSWERS += [(f"{len(files)} files: {line}", {f"f{number}": data for number, data in enumerate(files)},
              "check k " + " ".join(f"f{number}" for number in range(len(files))), line + "\n", int(line.startswith("refused")))
             for files, line in FILES]
-ANSWERS += [(f"words: {words!r}", {"k.wuffs": b""}, words, USAGE, 2) for words in ("check", "check k", "check K k.wuffs", "check k_B k.wuffs", "check k- k.wuffs", "Check k k.wuffs")]
+ANSWERS += [(f"words: {words!r}", {"k.wuffs": b""}, words, USAGE, 2) for words in ("check", "check k", "check K k.wuffs", "check k_B k.wuffs", "check k- k.wuffs", "Check k k.wuffs",
+                                                                                               "gen k", "gen base k.wuffs", "run k k.wuffs", "mean k k.wuffs", "mean base k.wuffs k.wuffs", "exec k k.wuffs k.wuffs")]
 
 
 def run(program, files, words):

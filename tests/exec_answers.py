@@ -86,6 +86,8 @@ VALUES = [
     ("(1 % 0)", "undefined"),
     ("(1u / 0)", "undefined"),
     ("(1ull % 0)", "undefined"),
+    ("(7 / self->n8)", "undefined"),
+    ("(7 + self->n8)", 7),
     ("((0 - 7) / 2)", 2 ** 64 - 3),
     ("((0 - 7) % 2)", 2 ** 64 - 1),
     ("(7 / (0 - 2))", 2 ** 64 - 3),
@@ -594,6 +596,7 @@ READINGS = [
     "static void one(uint8_t x) { x @+= 1; }",
     "static void one(uint8_t x) { x@++; }",
     "static void one(uint8_t x) { x = x @* x; }",
+    "static uint32_t one(uint16_t x) { return x @* x; }",
     "static void one(uint8_t x) { x = (x@); }",
     "static void one(uint8_t x) { x = (x - x @- x); }",
     "static void one(uint8_t x) { x = (x + x @* x); }",
@@ -690,6 +693,7 @@ def others():
     linked = text_of(with_bodies({"t": "self->n8 = self" + "->n8" * 60000 + "; return 0;"}))
     yield "60,000 links: fields", PACKAGE, "", linked, (f"text form {NUMBER['t']}", 8)
     yield "no text", PACKAGE, "", "", ("text notc 0", 8)
+    yield "one letter", PACKAGE, "", "x", ("text notc 0", 8)
     yield "another second line", PACKAGE, "", LINES.replace("stdint", "stdio"), ("text notc 20", 8)
     yield "another third line", PACKAGE, "", LINES.replace("string", "strings"), ("text notc 40", 8)
     yield "a last line that doesn't end", PACKAGE, "", LINES[:-1], ("text notc 40", 8)

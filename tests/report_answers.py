@@ -1,6 +1,6 @@
 #!/usr/bin/env python3
-"""Runs scripts on small packages through the built program, by `mean` or `run`, and compares the lines of calls and shows with
-answers written by hand.
+"""Runs scripts on small packages through the built program, by `mean`, by `run`, or by `exec` of what `gen` writes, and compares the lines
+of calls and shows with answers written by hand.
 
 usage: report_answers.py PROGRAM [NAME [COMMAND]]    only the answers whose name has NAME in it; `mean` is the default
 A package is one of PACKAGES. In a script a bar ends a line; before its first line stand a receiver p of the package's first

@@ -1,5 +1,6 @@
 #!/usr/bin/env python3
-"""Runs scripts through the built program, by `mean` or `run`, and compares what it writes and how it ends with answers written by hand.
+"""Runs scripts through the built program, by `mean`, by `run`, or by `exec` of what `gen` writes, and compares what it writes and how it
+ends with answers written by hand.
 
 usage: script_answers.py PROGRAM [NAME [COMMAND]]    only the scripts whose name has NAME in it; `mean` is the default
 The scripts of examples/ have their reports beside them. REFUSED are scripts over the package KINDS, with the rule and the line of
@@ -86,6 +87,7 @@ REFUSED = [
     ("the name false", "bytes false -", "X3", 1),
     ("a misspelt name before an unknown struct", "new P z", "X3", 1),
     ("a receiver that was declared", "new p s|new p s", "X3", 2),
+    ("a buffer that was declared", "buf b 4|buf b 4", "X3", 2),
     ("a null receiver that was declared", "new p s|null p s", "X3", 2),
     ("a buffer with a receiver's name", "new p s|buf p 1", "X3", 2),
     ("an array with a buffer's name", "buf b 1|bytes b 00", "X3", 2),
@@ -182,12 +184,14 @@ REFUSED = [
     ("a bounded argument goes by its width", START + "|call p.bounded a=4294967296", "X4", 7),
     ("a buffer that isn't known", START + "|call p.copy dst=b src=z", "X2", 7),
     ("an array where a buffer is wanted", START + "|call p.copy dst=b src=a", "X3", 7),
+    ("an array where a writer's buffer is wanted", START + "|call p.copy dst=a src=c", "X3", 7),
     ("a receiver where a buffer is wanted", START + "|call p.copy dst=b src=p", "X3", 7),
     ("a number where a buffer is wanted", START + "|call p.copy dst=b src=1", "X2", 7),
     ("one buffer twice", START + "|call p.copy dst=b src=b", "X5", 7),
     ("one buffer twice, then a word too many", START + "|call p.copy dst=b src=b z=1", "X5", 7),
     ("a word too many, then one buffer twice", START + "|call p.copy z=1 dst=b src=b", "X3", 7),
     ("an argument given twice with one buffer", START + "|call p.copy dst=b dst=b src=c", "X3", 7),
+    ("an argument given twice with null", START + "|call p.join dst=b a=null a=null", "X3", 7),
     ("an argument given twice with a buffer that isn't known", START + "|call p.copy dst=b dst=z src=c", "X2", 7),
     ("one array twice", START + "|call p.join dst=b a=a b=a", "X5", 7),
     ("a buffer where an array is wanted", START + "|call p.join dst=b a=c b=e", "X3", 7),
@@ -234,19 +238,26 @@ LAWFUL = [
     ("a put into a closed buffer", "buf b 4|put b 0102|close b|put b 03|show b|",
      "buf b 4|put b 2|close b|put b 0|show b 0102 ri=0 wi=2 pos=0 closed|"),
     ("a put of more than fits", "buf b 2|put b 010203|show b|", "buf b 2|put b 2|show b 0102 ri=0 wi=2 pos=0 open|"),
+    ("more bytes than are written at once", "buf b 65536|put b " + "5a" * 3000 + "|show b|",
+     "buf b 65536|put b 3000|show b " + "5a" * 3000 + " ri=0 wi=3000 pos=0 open|"),
     ("a script of all bytes that it may have", "turns 1|" + "#" * 1048568, "turns 1|"),
     ("as many lines as it may have", "|" * 65535 + "turns 3", "turns 3|"),
 ]
 
 
 def answer(program, command, package, files, script):
-    """What a command prints of files (pairs of a name and a text) on a script of bytes, and its exit status."""
+    """What a command prints of files (pairs of a name and a text) on a script of bytes, and its exit status. `exec` runs the very
+    bytes that `gen` writes of the files."""
     with tempfile.TemporaryDirectory() as folder:
         for name, text in files:
             pathlib.Path(folder, name).write_text(text)
         pathlib.Path(folder, "s").write_bytes(script)
-        ended = subprocess.run([program, command, package, "s", *(name for name, _ in files)], cwd=folder, stdin=subprocess.DEVNULL,
-                               capture_output=True, timeout=120)
+        names = [name for name, _ in files]
+        how = {"cwd": folder, "stdin": subprocess.DEVNULL, "stdout": subprocess.PIPE, "timeout": 120}
+        texts = ["t.c"] if command == "exec" else []
+        for text in texts:
+            pathlib.Path(folder, text).write_bytes(subprocess.run([program, "gen", package, *names], **how).stdout)
+        ended = subprocess.run([program, command, package, "s", *texts, *names], **how)
         return ended.stdout.decode(errors="replace"), ended.returncode
 
 
