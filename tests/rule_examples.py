@@ -5,10 +5,13 @@ that are whole files, and what README.md and docs/LOWERING.md show of the packag
 A block that begins with ```wuffs refused RULE LINE:COL has to be refused so; under a rule's heading it is refused by that rule.
 One that begins with ```wuffs passes has to be accepted. A line that begins with - [refused RULE LINE:COL](FILE) or - [passes](FILE)
 tells the same of a file. The package, the script and the report that README.md shows have to be those of examples/ and of the
-program. The C texts that it and LOWERING.md show have to be what `gen` writes, that of LOWERING.md whole after the io buffer's struct.
+program. README.md's first command is run as it stands there, with PROGRAM in the place of ./wuffsc: it has to print the C text, whose
+lines are as many as are told, and then the report. The C texts that it and LOWERING.md show have to be what `gen` writes, that of
+LOWERING.md whole after the io buffer's struct.
 """
 import pathlib
 import re
+import shlex
 import subprocess
 import sys
 import tempfile
@@ -64,6 +67,17 @@ def shown(page, first):
     return found[0] if len(found) == 1 else f"no one block begins with {first}"
 
 
+def first_command(page):
+    """The first line of the page that is indented and in no block."""
+    return re.search(r"^    (\S.*)$", re.sub(r"^```.*?^```$", "", page.read_text(), flags=re.M | re.S), re.M)[1]
+
+
+def pasted(program, line):
+    """What a shell prints for a line of a document that calls ./wuffsc."""
+    line = line.replace("./wuffsc", shlex.quote(program))
+    return subprocess.run(["sh", "-c", line], cwd=TOP, capture_output=True, text=True, timeout=60).stdout
+
+
 def prints(program, *words):
     return subprocess.run([program, *words], cwd=TOP, capture_output=True, text=True, timeout=60).stdout
 
@@ -77,6 +91,8 @@ def drifts(program):
     yield "README.md: the package isn't that of examples/", shown(readme, "pub status") == (EXAMPLES / "parser.wuffs").read_text()
     yield "README.md: the script isn't that of examples/", shown(readme, "new p parser") == (EXAMPLES / "parser.script").read_text()
     yield "README.md: the report isn't what run prints", shown(readme, "new p\n") == report == (EXAMPLES / "parser.report").read_text()
+    yield "README.md: the first command doesn't print the C text and then the report", pasted(program, first_command(readme)) == text + report
+    yield "README.md: the C text has another number of lines", f"The C text has {text.count(chr(10))} lines" in readme.read_text()
     yield "README.md: mean doesn't print the same report", prints(program, "mean", "demo", script, package) == report
     yield "README.md: the C text isn't what gen writes", "\n" + shown(readme, "static const char* body_parser__parse(") in text
     _, buffer, rest = text.partition("} wuffs_base__io_buffer;\n\n")
