@@ -1,8 +1,8 @@
 /* Prints the Adler-32 checksum of a file. The file is read in pieces, and the hasher goes on where each piece ends.
 
-     wuffsc gen adler32 adler32.wuffs > adler32.c
-     cc -std=c99 -O2 -o adler32 adler32_main.c
-     ./adler32 FILE
+     ../wuffsc gen adler32 adler32.wuffs > adler32.c && cc -std=c99 -O2 -o adler32 adler32_main.c
+
+   builds it in this folder, and ./adler32 FILE runs it.
 */
 #include "adler32.c"
 
@@ -29,7 +29,7 @@ int main(int argc, char** argv) {
   src.len = sizeof(bytes);
   for (;;) {
     status = wuffs_adler32__hasher__update_from(&hasher, &src);
-    if (!status || status[0] != '$') {
+    if (!status || status[0] != '$' || src.closed) {
       break;
     }
     /* It wants more bytes, and has taken all that were there. */

@@ -1,8 +1,8 @@
 /* Prints the size of a farbfeld image, and how its first pixels look as text: one character a pixel, by its brightness.
 
-     wuffsc gen farbfeld farbfeld.wuffs > farbfeld.c
-     cc -std=c99 -O2 -o farbfeld farbfeld_main.c
-     ./farbfeld FILE
+     ../wuffsc gen farbfeld farbfeld.wuffs > farbfeld.c && cc -std=c99 -O2 -o farbfeld farbfeld_main.c
+
+   builds it in this folder, and ./farbfeld FILE runs it.
 */
 #include "farbfeld.c"
 
@@ -23,7 +23,7 @@ static int fill(wuffs_base__io_buffer* b, FILE* file) {
 /* A character for a pixel of red, green, blue and opacity. */
 static char shade(const uint8_t* pixel) {
   unsigned light = (pixel[0] + 2u * pixel[1] + pixel[2]) * pixel[3];
-  return " .:-=+*#%@"[light / (4u * 255u * 255u / 9u + 1u)];
+  return " .:-=+*#%@"[light / (4u * 255u * 255u / 10u + 1u)];
 }
 
 int main(int argc, char** argv) {

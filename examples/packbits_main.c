@@ -1,8 +1,8 @@
 /* Unpacks a PackBits file to standard output, with a buffer of 4096 bytes on either side.
 
-     wuffsc gen packbits packbits.wuffs > packbits.c
-     cc -std=c99 -O2 -o packbits packbits_main.c
-     ./packbits FILE > UNPACKED
+     ../wuffsc gen packbits packbits.wuffs > packbits.c && cc -std=c99 -O2 -o packbits packbits_main.c
+
+   builds it in this folder, and ./packbits FILE > UNPACKED runs it.
 */
 #include "packbits.c"
 
@@ -44,6 +44,7 @@ int main(int argc, char** argv) {
   wuffs_packbits__unpacker unpacker;
   const char* status;
   FILE* file;
+  int works;
 
   if (argc != 2) {
     fprintf(stderr, "usage: packbits FILE > UNPACKED\n");
@@ -61,21 +62,26 @@ int main(int argc, char** argv) {
   dst.len = sizeof(unpacked);
   for (;;) {
     status = wuffs_packbits__unpacker__unpack(&unpacker, &dst, &src);
-    if (!status || status[0] != '$') {
+    if (status && !strcmp(status, "$base: short read") && !src.closed) {
+      works = fill(&src, file);
+    } else if (status && !strcmp(status, "$base: short write")) {
+      works = drain(&dst, stdout);
+    } else {
       break;
     }
-    /* One of "$base: short read" and "$base: short write": seeing to both is always right. */
-    if (!drain(&dst, stdout) || (!src.closed && !fill(&src, file))) {
+    if (!works) {
       perror("packbits");
       fclose(file);
       return 1;
     }
   }
   fclose(file);
+  /* However it ended, what was unpacked so far is good. */
   if (!drain(&dst, stdout) || fflush(stdout)) {
     perror("packbits");
     return 1;
   }
+  /* An error, or "$base: short read" though the file is over. */
   if (status) {
     fprintf(stderr, "%s: %s\n", argv[1], status);
     return 1;
