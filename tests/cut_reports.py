@@ -8,11 +8,12 @@ two at every byte, alone and with something else done while p waits (another rec
 is called, a buffer is null, p is initialized again, or also takes the whole input); byte by byte; with outputs of 1, 2 and so on bytes;
 with these and a cut; with no more than N turns for N from 0 until they are enough, uncut, cut and byte by byte; and with a receiver that is
 null or wasn't initialized. Both commands have to print the same and to end alike. Uncut they say what the second opinion says
-(second_opinion/scripts.py), and what is only cut writes the bytes and shows the numbers that the uncut stream does. Prints what
+(second_opinion/scripts.py), and what is only cut ends by the status, writes the bytes and shows the numbers that the uncut stream does. Prints what
 differs; the last line counts the scripts.
 """
 import os
 import pathlib
+import re
 import subprocess
 import sys
 import tempfile
@@ -65,7 +66,7 @@ class Stream:
             if cut == EACH:
                 pieces = [bytes([byte]) for byte in step.given] or [b""]
                 outs = [outputs] * len(pieces)
-            elif cut is not None and at <= cut < at + max(len(step.given), 1):
+            elif cut is not None and at <= cut < at + max(len(step.given), 1) + (self.closes and step is self.steps[-1]):
                 pieces, outs = [step.given[:cut - at], step.given[cut - at:]], [outputs[:count], outputs[-count:]]
             for number, piece in enumerate(pieces):
                 lines += [*between] * (number > 0) + [f"put b {piece.hex() or '-'}"]
@@ -75,10 +76,11 @@ class Stream:
         return "\n".join(lines + [f"show {name}" for name in outputs] + [f"call p.{look}" for look in self.looks]).encode() + b"\n"
 
     def last(self, said):
-        """The bytes that were written, and the lines of what was looked at."""
+        """The status of the last step, the bytes that were written, and the lines of what was looked at."""
         lines = said.rstrip("\n").split("\n")
+        statuses = re.findall(rf'^call p\.{self.steps[-1].method} ("[^"]*"|\S+)', said, re.M)
         shown = "".join(line.split(" ")[2] for line in lines if line.startswith("show d")).replace("-", "")
-        return shown, lines[len(lines) - len(self.looks):]
+        return statuses[-1:], shown, lines[len(lines) - len(self.looks):]
 
 
 def streams():
@@ -140,7 +142,8 @@ class Runs:
             begin += (f"call p.pick what={stream.name[-1]}",)
         script = stream.script(begin=begin)
         last = stream.last(self.compare(stream, "uncut", script, report(stream.package, [stream.text], script))[0])
-        cuts = range(len(stream.input)) if stream.input else []
+        # An input that is closed is also cut at its end: it is closed only after the package has asked for more.
+        cuts = range(len(stream.input) + stream.closes) if stream.input else []
         for cut in cuts:
             self.compare(stream, f"cut at {cut}", stream.script(cut, begin=begin), last=last)
             another = ["new q {}".format(stream.struct), *stream.whole("q", "qb", "qd")]
