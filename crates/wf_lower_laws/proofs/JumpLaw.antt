@@ -63,7 +63,7 @@ body_forward p m h l =
     (record { breaking = whole _ _ _ _ m.body l.apart; continuing = whole _ _ _ _ m.body l.apart }) (block_rules p m h)))
 
 pub texts_jump_forward : TextsJumpForward
-texts_jump_forward nodes number item typed e =
+texts_jump_forward nodes typed number item e =
     let p = package_of nodes in
     each_at JumpsForward (lowered_unit p) (in_unit JumpsForward p (record {
       buffer = tt;

@@ -26,11 +26,13 @@ pub mod KeptReads
 pub mod LabelLaw
 pub mod Labels
 pub mod Loops
+pub mod Markers
 pub mod MethodScope
 pub mod NameLaw
 pub mod Names
 pub mod Numbers
 pub mod OpenBrackets
+pub mod OrderSums
 pub mod Orders
 pub mod OwnNames
 pub mod Prefixes
@@ -39,6 +41,7 @@ pub mod Statuses
 pub mod Straight
 pub mod StructTypes
 pub mod Surfaces
+pub mod TextWhiles
 pub mod Typing
 pub mod Weights
 pub mod Whiles

@@ -19,12 +19,15 @@ LeadForward body =
     (number : ℕ) (label : List ℕ) (rest : Code) (k : Continuation) → StandsAt body number (at (jump label rest) k)
     → LeadsBehind (at (jump label rest) k) (find (by_name label) body stop)
 
--- And of each function of an item.
+-- And of the function that an item is.
 abbrev pub JumpsForward : ItemTree → Type 0
 JumpsForward (function_item linkage result_type name params locals body) = LeadForward body
 JumpsForward item = Unit {0}
 
--- Each item of the text of a typed package is so.
+-- And of each item of a text.
+abbrev pub AllJumpForward : List ItemTree → Type 0
+AllJumpForward items = (number : ℕ) (item : ItemTree) → slice_get items number ≡ Some item → JumpsForward item
+
+-- So is the text of a typed package.
 abbrev pub TextsJumpForward : Type 0
-TextsJumpForward =
-    (nodes : TypedNodes) (number : ℕ) (item : ItemTree) → IsTyped nodes → slice_get (lowered_unit (package_of nodes)) number ≡ Some item → JumpsForward item
+TextsJumpForward = (nodes : TypedNodes) → IsTyped nodes → AllJumpForward (lowered_unit (package_of nodes))

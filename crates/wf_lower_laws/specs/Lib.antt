@@ -1,6 +1,7 @@
 pub mod JumpLaw
 pub mod TurnLaw
 pub mod LabelLaw
+pub mod LoopLaw
 pub mod BracketLaw
 pub mod NameLaw
 pub mod FormLaw

@@ -7,9 +7,10 @@ ghost use Rattle.wf_lower_laws.specs.ItemLaw.{ItemsNameApart};
 ghost use Rattle.wf_lower_laws.specs.JumpLaw.{TextsJumpForward};
 ghost use Rattle.wf_lower_laws.specs.KindLaw.{ExpressionsKeepKinds};
 ghost use Rattle.wf_lower_laws.specs.LabelLaw.{TextsAreLabelled};
+ghost use Rattle.wf_lower_laws.specs.LoopLaw.{LoopsAreMarked, LoopsAreSpelt};
 ghost use Rattle.wf_lower_laws.specs.NameLaw.{TextsNameApart};
 ghost use Rattle.wf_lower_laws.specs.SurfaceLaw.{TextsMeetSurfaces};
-ghost use Rattle.wf_lower_laws.specs.TurnLaw.{LoopAlike};
+ghost use Rattle.wf_lower_laws.specs.TurnLaw.{LoopAlike, TextsLoopAlike};
 ghost use Rattle.wf_lower_laws.specs.TypeLaw.{TextsAreTyped};
 
 /// Each `goto` of the text of a typed package leads to a label of its function that stands after it. So it takes no turn, and no
@@ -21,6 +22,24 @@ pub fn jumps_lead_forward()
 /// The body of a method has as many `while` statements as the method has loops, and no other function of a text has any.
 pub fn methods_and_bodies_loop_alike()
     ensures { (p : PackageTree) → LoopAlike p }
+{}
+
+/// So the text of a package that keeps the rules of types has, all its items together, as many `while` statements as the package has
+/// loops, all its methods together: each body stands in it once, in whatever order.
+pub fn texts_and_packages_loop_alike()
+    ensures { TextsLoopAlike }
+{}
+
+/// The loops of each method of a typed package have numbers that labels spell apart, and so has each loop that a `break` or a
+/// `continue` names, as the laws of their labels (`breaks_behind_loop` and `continues_at_loop` of wf_lower_stmts) ask.
+pub fn labels_of_loops_are_spelt()
+    ensures { LoopsAreSpelt }
+{}
+
+/// The loop behind which the label of a `break` is found, and the one at whose end that of a `continue`, is the one whose marker the
+/// source's meaning goes on with.
+pub fn markers_agree()
+    ensures { LoopsAreMarked }
 {}
 
 /// The labels of each function of the text of a typed package differ, and each `goto` names one of them. The cases of each `switch`

@@ -30,9 +30,10 @@ use Rattle.wf_points.specs.PointNumbers.{HasTooMany}
 use Rattle.wf_bounds_stmts.specs.MethodRules.{facts_refusal}
 use Rattle.wf_bounds.specs.Acceptance.{AcceptedPackage, IsAccepted, IsRefusedFor}
 use Rattle.wf_tokens.specs.Runs.{is_run}
+use Rattle.wf_lower_laws.proofs.JumpLaw.{texts_jump_forward}
+use Rattle.wf_lower_laws.proofs.TextWhiles.{texts_loop_alike}
 use Rattle.wf_lower_formed_laws.proofs.AcceptedForm.{read_texts_are_formed}
 use Rattle.wf_lower_depth_laws.proofs.ReadTexts.{read_texts_are_shallow}
-use Rattle.wf_tool_runs.specs.Lowered.{IsLowered}
 use Rattle.wf_lower_names.specs.SpeltNodes.{IsPlainPackage}
 use Rattle.wf_lower_names.proofs.SpeltNodes.{nodes_are_spelt}
 use Rattle.wf_typed_laws.proofs.NodeNames.{nodes_have_names}
@@ -44,7 +45,7 @@ use Rattle.wf_bounds_laws.proofs.AnyOrder.{bounds_ignore_order, points_ignore_or
 use Rattle.wf_bounds_laws.proofs.TypedBounds.{typing_keeps_bounds, typing_keeps_points}
 use Rattle.wf_tool.specs.Sizes.{too_large}
 use Rattle.wf_tool.specs.Runs.{IsAcceptedAs}
-use Rattle.wf_tool.specs.Taken.{Judges, RefusesTyped, JudgesNamed, JudgesRead}
+use Rattle.wf_tool.specs.Taken.{HasLawfulText, Judges, RefusesTyped, JudgesNamed, JudgesRead}
 use Rattle.wf_tool.specs.Verdict as verdicts
 use Rattle.wf_tool.specs.Verdict.{BreaksTypes, resolved, misnamed, mistyped}
 use Rattle.wf_tool.specs.Soundness.{in_order}
@@ -188,17 +189,21 @@ not-base name h = not-false (bytes_eq name (codes "base")) (and-both _ _ h).1
 
 pub read-judged : (name : List ℕ) (files : List (List ℕ)) (read : Parsed) (result : Result AcceptedPackage PhaseFault) → is_package_name name ≡ true
     → too_large files ≡ None → IsParsed name files read → JudgesRead read result → Judges name files result
-read-judged name files read (Ok a) named sized parsed h = (accepted_as, nodes_have_names a.nodes h.5 plain.names, nodes_are_spelt a.nodes h.5 plain, lowered)
+read-judged name files read (Ok a) named sized parsed h = (accepted_as, nodes_have_names a.nodes h.5 plain.names, nodes_are_spelt a.nodes h.5 plain, lawful)
   where
     few : Decides (HasTooMany (package_of a.nodes)) None
     few = λ refusal broken.
         let P : PackageTree → Type 0 = λ p. HasTooMany p refusal in
         h.3 refusal (points_ignore_order (resolved read) h.4.order h.4.struct_order refusal (subst P h.4.tree broken))
 
-    lowered : IsLowered (package_of a.nodes)
-    lowered = record {
-      form = read_texts_are_formed name files read parsed h.0 (not-base name named) h.4.order h.4.struct_order a.nodes h.4.tree h.5 few;
-      shallow = read_texts_are_shallow name files read parsed h.4.order h.4.struct_order (package_of a.nodes) h.4.tree;
+    lawful : HasLawfulText (package_of a.nodes)
+    lawful = record {
+      lowered = record {
+        form = read_texts_are_formed name files read parsed h.0 (not-base name named) h.4.order h.4.struct_order a.nodes h.4.tree h.5 few;
+        shallow = read_texts_are_shallow name files read parsed h.4.order h.4.struct_order (package_of a.nodes) h.4.tree;
+      };
+      forward = texts_jump_forward a.nodes h.5;
+      loops = texts_loop_alike (package_of a.nodes) h.5.rules;
     }
 
     accepted : verdicts.IsAccepted name files (length (package_of a.nodes).methods)

@@ -34,7 +34,7 @@ same-outcome text one two h k =
     let only = read-or-refused text in
     only.2 one h ∙ sym (only.2 two k)
 
-module _ (seen : SeenOf) (p : PackageTree) (text : List ℕ) (is : IsUnitText (surface_of p) (lowered_unit p) text) (short : length text ≤ most_text) where
+module _ (seen : SeenOf) (p : PackageTree) (text : List ℕ) (is : IsUnitText p (lowered_unit p) text) (short : length text ≤ most_text) where
   -- It is read to its tree.
   read_whole : HasOutcome text (whole (lowered_unit p))
   read_whole = (is.spelt, is.shallow)

@@ -27,7 +27,7 @@ unit-told held failed asked before now kept unit is ending text told =
     subst C (sym told.0) (unit-called held asked unit is ending text told, kept)
 
 module _ (held : List ℕ → Option (List ℕ)) (asked : PackageWords) (old new : Option (List ℕ)) (room : Option ℕ) where
-  -- It is one of the C subset, whose tree has the unit form.
+  -- It is one of the C subset, of whose tree these laws hold.
   pub unit-lawful : (unit : Nodes) → LowersHeld held asked unit → IsTextOf (text_of (unit_tree unit)) (unit_tree unit) → (ending : Ending) → Writes (IsTextOfUnit unit) old new room ending → GenWrites held asked ending old new
   unfolding unit-called
   unit-lawful unit is spelt Done w =
@@ -36,7 +36,13 @@ module _ (held : List ℕ → Option (List ℕ)) (asked : PackageWords) (old new
       record {
         text = w.text;
         called = unit-called held asked unit is Done w.text w.called;
-        lawful = record { spelt = subst T is.lowered (subst S (sym w.called.1) spelt); form = is.formed.form; shallow = is.formed.shallow };
+        lawful = record {
+          spelt = subst T is.lowered (subst S (sym w.called.1) spelt);
+          form = is.lawful.lowered.form;
+          shallow = is.lawful.lowered.shallow;
+          forward = is.lawful.forward;
+          loops = is.lawful.loops;
+        };
         wrote = w.wrote;
       }
   unit-lawful unit is spelt Refused w = tt

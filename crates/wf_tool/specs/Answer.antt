@@ -4,7 +4,6 @@ use Rattle.std.specs.Io.KnownBytes.{Appends, Keeps}
 use Rattle.pens.specs.Pens.{KeepsLongest}
 use Rattle.wf_text.specs.declared.rules.Refusal.{Refusal}
 use Rattle.wf_ast.specs.TypedPackage.{PackageTree, surface_of}
-use Rattle.wf_text.specs.Surface.{Surface}
 use Rattle.c_text.specs.CGrammar.{IsTextOf, unit_tokens}
 use Rattle.c_text.specs.CLayout.{text_of}
 use Rattle.c_text.specs.CTree.{ItemTree}
@@ -12,6 +11,8 @@ use Rattle.c_read_grammar.specs.Outcomes.{IsShallow}
 use Rattle.c_meaning.specs.UnitForm.{HasUnitForm}
 use Rattle.c_step.specs.Loading.{SeenOf}
 use Rattle.wf_lower.specs.Unit.{lowered_unit}
+use Rattle.wf_lower_laws.specs.JumpLaw.{AllJumpForward}
+use Rattle.wf_lower_laws.specs.TurnLaw.{package_loops, text_whiles}
 use Rattle.wf_script_rules.specs.Report.{Report}
 use Rattle.wf_script_rules.specs.Scripts.{Script}
 use Rattle.wf_tool_runs.specs.Lowered.{lowered_report}
@@ -65,12 +66,14 @@ pub record CallsForUnit (held : List ℕ → Option (List ℕ)) (asked : Package
   pub accepted : IsAcceptedAs asked.package_name files tree
   pub writes : text ≡ text_of (lowered_unit tree)
 
--- The text is one of the C subset, of these items, which have the unit form for this surface; and it never opens a bracket where 512
--- are open.
-pub record IsUnitText (surface : Surface) (items : List ItemTree) (text : List ℕ) : Type 0 where
+-- The text is one of the C subset, of these items, which have the unit form for the package's surface; and it never opens a bracket
+-- where 512 are open. Each `goto` leads to a label behind it, and there are as many `while` statements as in the package.
+pub record IsUnitText (p : PackageTree) (items : List ItemTree) (text : List ℕ) : Type 0 where
   pub spelt : IsTextOf text items
-  pub form : HasUnitForm surface items
+  pub form : HasUnitForm (surface_of p) items
   pub shallow : IsShallow 0 (unit_tokens items)
+  pub forward : AllJumpForward items
+  pub loops : text_whiles items ≡ package_loops p
 
 -- This input failed: a file, after those before it were taken, within `most` bytes together, or one of the others, which come after
 -- all files.
@@ -261,11 +264,11 @@ KeepsPieces (Some (mean asked script)) ending old new = KeepsWholePieces ending 
 KeepsPieces (Some (exec asked script other)) ending old new = KeepsWholePieces ending old new
 KeepsPieces command ending old new = ⊤
 
--- The sink, where it tells, has gained a text that `gen` calls for, and this is a unit's text for the package's surface.
+-- The sink, where it tells, has gained a text that `gen` calls for, and this is a unit's text for the package.
 pub record WritesUnitText (held : List ℕ → Option (List ℕ)) (asked : PackageWords) (old new : Option (List ℕ)) : Type 0 where
   pub text : List ℕ
   pub called : CallsForUnit held asked text
-  pub lawful : IsUnitText (surface_of called.tree) (lowered_unit called.tree) text
+  pub lawful : IsUnitText called.tree (lowered_unit called.tree) text
   pub wrote : Appends old new text
 
 -- So it is with each C text that `gen` writes to its end.

@@ -17,12 +17,12 @@ pub record RunsAlike (seen : SeenOf) (p : PackageTree) (text : List ℕ) : Type 
   pub as_text : (bytes : List ℕ) (ending : Ending) (line : List ℕ) → ScriptCallsFor (surface_of p) (lowered_report seen p) bytes ending line → TextCallsFor seen (surface_of p) bytes text ending line
 
 abbrev pub UnitTextsRunAlike : Type 0
-UnitTextsRunAlike = (seen : SeenOf) (p : PackageTree) (text : List ℕ) → IsUnitText (surface_of p) (lowered_unit p) text → length text ≤ most_text → RunsAlike seen p text
+UnitTextsRunAlike = (seen : SeenOf) (p : PackageTree) (text : List ℕ) → IsUnitText p (lowered_unit p) text → length text ≤ most_text → RunsAlike seen p text
 
 -- The inputs tell a package's files, and under another name such a text of the package: what `exec` calls for over that text, whatever
 -- the script, `run` calls for.
 abbrev pub OwnTextsRunAsPackages : Type 0
 OwnTextsRunAsPackages =
     (seen : SeenOf) (held : List ℕ → Option (List ℕ)) (asked : PackageWords) (files : List (List ℕ)) (p : PackageTree) (script other text : List ℕ) (ending : Ending) (line : List ℕ) → AreTold held asked.files files
-    → held other ≡ Some text → IsAcceptedAs asked.package_name files p → IsUnitText (surface_of p) (lowered_unit p) text → length text ≤ most_text → CallsForText seen held asked script other ending line
+    → held other ≡ Some text → IsAcceptedAs asked.package_name files p → IsUnitText p (lowered_unit p) text → length text ≤ most_text → CallsForText seen held asked script other ending line
     → CallsForRun (lowered_report seen) held asked script ending line

@@ -18,6 +18,8 @@ use Rattle.wf_surfaces.specs.Names.{HasNames}
 use Rattle.c_text.specs.CNodes.{Nodes, unit_tree}
 use Rattle.wf_lower.specs.Made.{IsSpelt}
 use Rattle.wf_lower.specs.Unit.{lowered_unit}
+use Rattle.wf_lower_laws.specs.JumpLaw.{AllJumpForward}
+use Rattle.wf_lower_laws.specs.TurnLaw.{package_loops, text_whiles}
 use Rattle.wf_bounds_laws.specs.BoundsRules as bounds
 use Rattle.wf_tool_runs.specs.Lowered.{IsLowered}
 use Rattle.wf_tool.specs.declared.judging.Ready.{Ready}
@@ -110,10 +112,17 @@ JudgesRead read (Err (phase.Refused refusal)) =
     ⊎ (KeepsNames read × KeepsTypes read × RefusesTyped (resolved read) refusal))
 JudgesRead read (Err phase.Memory) = ⊤
 
+-- The C text of a package has the unit form and can be read back. Each `goto` leads to a label behind it, and there are as many
+-- `while` statements as in the package.
+pub record HasLawfulText (p : PackageTree) : Type 0 where
+  pub lowered : IsLowered p
+  pub forward : AllJumpForward (lowered_unit p)
+  pub loops : text_whiles (lowered_unit p) ≡ package_loops p
+
 -- The verdict on files whose bytes are within the limits. An accepted package is never stuck, its nodes have texts for their
--- names, C can spell its names and texts, and its C text has the unit form and can be read back.
+-- names, C can spell its names and texts, and its C text keeps these laws.
 abbrev pub Judges : (name : List ℕ) → (files : List (List ℕ)) → Result AcceptedPackage PhaseFault → Type 0
-Judges name files (Ok a) = IsAcceptedAs name files (package_of a.nodes) × HasNames a.nodes × IsSpelt a.nodes × IsLowered (package_of a.nodes)
+Judges name files (Ok a) = IsAcceptedAs name files (package_of a.nodes) × HasNames a.nodes × IsSpelt a.nodes × HasLawfulText (package_of a.nodes)
 Judges name files (Err (phase.Refused refusal)) = IsRefused name files refusal
 Judges name files (Err phase.Memory) = ⊤
 
@@ -124,7 +133,7 @@ taking_fault phase.Memory = Memory
 
 -- The same of files that have been taken.
 abbrev pub JudgesTaken : (name : List ℕ) → (files : List (List ℕ)) → Result AcceptedPackage TakingFault → Type 0
-JudgesTaken name files (Ok a) = IsAcceptedAs name files (package_of a.nodes) × HasNames a.nodes × IsSpelt a.nodes × IsLowered (package_of a.nodes)
+JudgesTaken name files (Ok a) = IsAcceptedAs name files (package_of a.nodes) × HasNames a.nodes × IsSpelt a.nodes × HasLawfulText (package_of a.nodes)
 JudgesTaken name files (Err (Refused refusal)) = IsRefused name files refusal
 JudgesTaken name files (Err (Failed at)) = ⊥
 JudgesTaken name files (Err Memory) = ⊤
@@ -132,7 +141,7 @@ JudgesTaken name files (Err Memory) = ⊤
 -- The same with the bytes of a script beside them.
 abbrev pub JudgesReady : (name : List ℕ) → (files : List (List ℕ)) → (script : List ℕ) → Result Ready TakingFault → Type 0
 JudgesReady name files script (Ok ready) =
-    IsAcceptedAs name files (package_of ready.accepted.nodes) × HasNames ready.accepted.nodes × IsSpelt ready.accepted.nodes × IsLowered (package_of ready.accepted.nodes) × (ready.script.items ≡ script)
+    IsAcceptedAs name files (package_of ready.accepted.nodes) × HasNames ready.accepted.nodes × IsSpelt ready.accepted.nodes × HasLawfulText (package_of ready.accepted.nodes) × (ready.script.items ≡ script)
 JudgesReady name files script (Err (Refused refusal)) = IsRefused name files refusal
 JudgesReady name files script (Err (Failed at)) = ⊥
 JudgesReady name files script (Err Memory) = ⊤
@@ -169,15 +178,15 @@ pub record AcceptsHeldAs (held : List ℕ → Option (List ℕ)) (asked : Packag
   pub accepted : IsAcceptedAs asked.package_name files (package_of a.nodes)
   pub names : HasNames a.nodes
   pub spelt : IsSpelt a.nodes
-  pub lowered : IsLowered (package_of a.nodes)
+  pub lawful : HasLawfulText (package_of a.nodes)
 
--- It is accepted, and this is the unit of its C text, which has the unit form and can be read back.
+-- It is accepted, and this is the unit of its C text, which keeps these laws.
 pub record LowersHeld (held : List ℕ → Option (List ℕ)) (asked : PackageWords) (u : Nodes) : Type 0 where
   pub files : List (List ℕ)
   pub tree : PackageTree
   pub hold : AreHeld held asked.files files
   pub accepted : IsAcceptedAs asked.package_name files tree
-  pub formed : IsLowered tree
+  pub lawful : HasLawfulText tree
   pub lowered : unit_tree u ≡ lowered_unit tree
 
 -- The package is accepted with so many methods, for bytes that its files hold, and it is never stuck.
@@ -221,7 +230,7 @@ pub record IsReadied (held : List ℕ → Option (List ℕ)) (asked : PackageWor
   pub accepted : IsAcceptedAs asked.package_name files (package_of ready.accepted.nodes)
   pub names : HasNames ready.accepted.nodes
   pub spelt : IsSpelt ready.accepted.nodes
-  pub lowered : IsLowered (package_of ready.accepted.nodes)
+  pub lawful : HasLawfulText (package_of ready.accepted.nodes)
   pub taken : TakesScript held script ready.script.items
 
 -- What becomes of a package and a script that is to run over it.
