@@ -1,37 +1,59 @@
 #!/usr/bin/env python3
-"""The C texts that `gen` writes, through real compilers: each compiles without a remark, and a host program made from a script
-prints the report that belongs to the package, with no finding of the sanitizers.
+"""The C texts that `gen` writes, through real compilers: each compiles without a remark, and a host program made from scripts
+prints the reports that belong to the package, with no finding of the sanitizers and of valgrind.
 
-usage: compiled_reports.py PROGRAM [COUNT [SEED]]    the packages of examples/, of report_answers.py and QUIET, and 20 random
-                                                     ones with the seed 1 are the default
-A script becomes a host program in C, which calls the functions of the text as docs/LOWERING.md tells them. The report is that of
-the second opinion (second_opinion/scripts.py); scripts that need more than their turns are left out, since compiled code counts
-none. Compilers that aren't there are skipped: gcc and clang with -fsanitize=address,undefined, at -O0 and -O3, and tcc without.
-Remarks that are true of the source are allowed (ALLOWED). Prints what differs; the last line counts.
+usage: compiled_reports.py PROGRAM [COUNT [SEED [NAME]]]    20 random packages with the seed 1 are the default; with a NAME only
+                                                            packages that have it in their name
+The packages of examples/, tests/decoders, report_answers.py and QUIET are compiled by gcc, clang and tcc with exactly LANGUAGE at each of
+LEVELS, and so are the host programs by hand in examples/. Their scripts are played by the BUILDS; a package without one gets random ones, but for
+those of examples/limits, which are compiled alone.
+The streams of cut_reports.py whose turns are enough, and COUNT random packages on two random scripts each, are played by the FEWER_BUILDS.
+
+A script becomes a function in C, which calls those of the text as docs/LOWERING.md tells them. It has to print what `run` prints,
+which has to be what the second opinion says (second_opinion/scripts.py). Compiled code counts no turns, so a script that needs more than it
+has is played up to the call that does. Random packages may draw remarks that are true of the source (TRUE_REMARKS), and no others.
+What needs a compiler or valgrind that isn't there is passed over. Prints what differs; the last lines count, and say what was passed over.
 """
+import collections
+import itertools
 import os
 import pathlib
 import random
+import re
 import shutil
 import subprocess
 import sys
 import tempfile
 
+import cut_reports
 import random_reports
 import report_answers
-from second_opinion.scripts import Script, judged_once, report
+from second_opinion.scripts import OUT_OF_TURNS, Script, judged_once, report
 from second_opinion.trees import BaseType, SliceType
 
 ROOT = pathlib.Path(__file__).resolve().parent.parent
+LANGUAGE = ["-std=c99", "-Wall", "-Wextra", "-Wpedantic", "-Werror"]
+COMPILERS, LEVELS = ["gcc", "clang", "tcc"], ["-O0", "-O2", "-O3"]
 SANITIZERS = ["-fsanitize=address,undefined", "-fno-sanitize-recover=all"]
-# A private method that nothing calls, a comparison that the operands' types decide, a variable compared with itself or assigned to itself.
-ALLOWED = ["-Wno-unused-function", "-Wno-type-limits", "-Wno-tautological-compare", "-Wno-tautological-constant-out-of-range-compare", "-Wno-self-assign"]
-# In random packages also what bounds don't look at, since it never runs: an index past an array, a division by 0 or a shift too
-# far, under a comparison that is never met or after a statement that never goes on.
-ALLOWED_RANDOM = ["-Wno-array-bounds", "-Wno-div-by-zero", "-Wno-shift-count-overflow"]
-STRICT = ["-std=c99", "-Wall", "-Wextra", "-Wpedantic", "-Werror", *ALLOWED]
-BUILDS = {"gcc": [["gcc", "-O0", *SANITIZERS], ["gcc", "-O3", *SANITIZERS]], "clang": [["clang", "-O0", *SANITIZERS], ["clang", "-O3", *SANITIZERS]],
-          "tcc": [["tcc"]]}
+# How a host program is compiled, and the words before its own when it is run.
+BUILDS = [([compiler, level, *SANITIZERS], []) for compiler in ("gcc", "clang") for level in ("-O0", "-O3")]
+BUILDS += [(["tcc"], []), (["gcc", "-O2", "-g"], ["valgrind", "-q", "--error-exitcode=99"])]
+FEWER_BUILDS = [(["gcc", "-O1", *SANITIZERS], []), (["clang", "-O0", *SANITIZERS], []), (["tcc"], [])]
+# How many random packages stand in one program.
+TOGETHER = 10
+# What compilers may say of random packages, and what is true of these then. Bounds don't look at what never runs: what stands under a
+# comparison that is never met, or after a statement that never goes on.
+TRUE_REMARKS = {
+    "unused-function": "nothing calls a private method",
+    "type-limits": "the types of what is compared decide a comparison",
+    "tautological-constant-out-of-range-compare": "the types of what is compared decide a comparison",
+    "tautological-compare": "a variable is compared with itself",
+    "tautological-overlap-compare": "a variable can't be equal to two constants, or is unequal to one of them",
+    "self-assign": "a variable is assigned to itself",
+    "array-bounds": "an index past an array never runs",
+    "div-by-zero": "a division by 0 never runs",
+    "shift-count-overflow": "a shift too far never runs",
+}
 
 # Packages whose text compilers would remark on if it weren't written with care, each with the lines of a script.
 QUIET = {
@@ -221,41 +243,87 @@ pub func s.h() base.bool {
 """, ["null q s", "call q.f", "call q.g src=b", "call q.h"]),
 }
 
+# What stands before the scripts. Only the text before it is compiled at a build's level, so that many scripts cost little.
 HOST = r"""
 #include <stdio.h>
 #include <stdlib.h>
+#if defined(__clang__)
+#pragma clang optimize off
+#elif defined(__GNUC__)
+#pragma GCC optimize("O0")
+#endif
+static void say(const char* s) { fputs(s, stdout); }
+static void say_number(uint64_t n) { printf("%llu", (unsigned long long)n); }
 static void say_status(const char* s) {
-    if (s) { printf("\"%s\"", s); } else { printf("ok"); }
+    if (s) { printf("\"%s\"", s); } else { say("ok"); }
 }
 static void say_bytes(const uint8_t* p, size_t n) {
     for (size_t i = 0; i < n; i++) { printf("%02x", p[i]); }
-    if (!n) { printf("-"); }
+    if (!n) { say("-"); }
 }
-static void say_counts(const wuffs_base__io_buffer* b) {
-    printf(" ri=%llu wi=%llu pos=%llu %s", (unsigned long long)b->ri, (unsigned long long)b->wi, (unsigned long long)b->pos, b->closed ? "closed" : "open");
+static void say_buffer(const char* name, const wuffs_base__io_buffer* b) {
+    printf("%s ri=%llu wi=%llu pos=%llu ", name, (unsigned long long)b->ri, (unsigned long long)b->wi, (unsigned long long)b->pos);
+    say(b->closed ? "closed" : "open");
 }
-static void put(wuffs_base__io_buffer* b, const char* name, const uint8_t* p, size_t n) {
+static uint8_t* bytes(const char* from, size_t n) {
+    uint8_t* p = n ? malloc(n) : 0;
+    if (from && n) { memcpy(p, from, n); }
+    return p;
+}
+static wuffs_base__io_buffer buffer(size_t n) {
+    wuffs_base__io_buffer b = { 0, 0, 0, 0, 0, 0 };
+    b.ptr = bytes(0, n);
+    b.len = n;
+    return b;
+}
+static void put(const char* name, wuffs_base__io_buffer* b, const char* from, size_t n) {
     size_t room = b->closed ? 0 : b->len - b->wi, k = n < room ? n : room;
-    if (k) { memcpy(b->ptr + b->wi, p, k); }
+    if (k) { memcpy(b->ptr + b->wi, from, k); }
     b->wi += k;
     printf("put %s %llu\n", name, (unsigned long long)k);
 }
-static void compact(wuffs_base__io_buffer* b) {
+static void close_buffer(const char* name, wuffs_base__io_buffer* b) {
+    b->closed = 1;
+    printf("close %s\n", name);
+}
+static void compact(const char* name, wuffs_base__io_buffer* b) {
     if (b->wi != b->ri) { memmove(b->ptr, b->ptr + b->ri, b->wi - b->ri); }
     b->pos += b->ri;
     b->wi -= b->ri;
     b->ri = 0;
+    printf("compact %s\n", name);
 }
-int main(void) {
+static void show_buffer(const char* name, const wuffs_base__io_buffer* b) {
+    printf("show %s ", name);
+    say_bytes(b->ptr, b->wi);
+    say_buffer("", b);
+    say("\n");
+}
+static void show_bytes(const char* name, const uint8_t* p, size_t n) {
+    printf("show %s ", name);
+    say_bytes(p, n);
+    say("\n");
+}
+"""
+# A host may need some of these alone.
+USES = "(void)say_status, (void)say_number, (void)buffer, (void)put, (void)close_buffer, (void)compact, (void)show_buffer, (void)show_bytes;\n"
+MAIN = """\
+#include <stdio.h>
+{}
+int main(void) {{
+    setvbuf(stdout, 0, _IOLBF, 1024);
+    {}
+    return 0;
+}}
 """
 
 
 class Host:
-    """Writes the body of a host program: what second_opinion/scripts.py's `Run` does, as C. A receiver, buffer or array has its
-    name in the script, after a letter."""
+    """Writes a function that plays a script: what second_opinion/scripts.py's `Run` does, as C. A receiver, buffer or array has its
+    name in the script, after a letter. Each stands in memory of its own; what has no bytes is a null pointer."""
 
     def __init__(self, package):
-        self.machine, self.package, self.lines, self.ends = self, package, [], []
+        self.machine, self.package, self.lines, self.ends, self.lengths = self, package, [], [], {}
 
     # What a script's commands call, in place of a machine's run
 
@@ -263,137 +331,256 @@ class Host:
         return struct
 
     def say(self, line):
-        self.lines.append(f'puts("{line}");')
+        self.lines.append(f'say("{line}\\n");')
 
     def declare(self, thing, state, line):
-        name = f"x_{thing.name}"
+        name, place = f"x_{thing.name}", f"x_{thing.name}"
         if thing.kind == "receiver":
-            of = f"wuffs_{self.package}__{thing.of.name}"
-            self.lines.append(f"static {of}* {name} = 0;" if state is None else f"static {of} r_{thing.name}; {of}* {name} = &r_{thing.name};")
+            made = f"calloc(1, sizeof(*{name}))" if state else "0"
+            self.lines.append(f"wuffs_{self.package}__{thing.of.name}* {name} = {made};")
         elif thing.kind == "buffer":
-            size = len(state.bytes)
-            self.lines.append(f"wuffs_base__io_buffer {name} = {{ malloc({size or 1}), {size}, 0, 0, 0, 0 }};")
-            self.ends.append(f"free({name}.ptr);")
+            self.lines.append(f"wuffs_base__io_buffer {name} = buffer({len(state.bytes)});")
+            place += ".ptr"
         else:
-            cells = ", ".join(map(str, state)) or "0"
-            self.lines.append(f"uint8_t {name}[] = {{ {cells} }}; size_t n_{thing.name} = {len(state)};")
+            self.lines.append(f"uint8_t* {name} = bytes({literal(state)}, {len(state)});")
+            self.lengths[thing] = len(state)
+        self.ends.append(f"free({place});")
         self.say(line)
 
     def init(self, thing, turns):
-        self.lines.append(f'printf("init {thing.name} "); say_status(wuffs_{self.package}__{thing.of.name}__initialize(x_{thing.name})); puts("");')
+        self.lines.append(f'say("init {thing.name} "); say_status(wuffs_{self.package}__{thing.of.name}__initialize(x_{thing.name})); say("\\n");')
 
     def put(self, thing, some):
-        cells = ", ".join(map(str, some)) or "0"
-        self.lines.append(f'{{ uint8_t some[] = {{ {cells} }}; put(&x_{thing.name}, "{thing.name}", some, {len(some)}); }}')
+        self.lines.append(f'put("{thing.name}", &x_{thing.name}, {literal(some)}, {len(some)});')
 
     def close(self, thing):
-        self.lines.append(f"x_{thing.name}.closed = 1;")
-        self.say(f"close {thing.name}")
+        self.lines.append(f'close_buffer("{thing.name}", &x_{thing.name});')
 
     def compact(self, thing):
-        self.lines.append(f"compact(&x_{thing.name});")
-        self.say(f"compact {thing.name}")
+        self.lines.append(f'compact("{thing.name}", &x_{thing.name});')
 
     def show(self, thing):
-        shown = f"x_{thing.name}.ptr, x_{thing.name}.wi" if thing.kind == "buffer" else f"x_{thing.name}, n_{thing.name}"
-        counts = f"say_counts(&x_{thing.name}); " if thing.kind == "buffer" else ""
-        self.lines.append(f'printf("show {thing.name} "); say_bytes({shown}); {counts}puts("");')
+        if thing.kind == "buffer":
+            self.lines.append(f'show_buffer("{thing.name}", &x_{thing.name});')
+        else:
+            self.lines.append(f'show_bytes("{thing.name}", x_{thing.name}, {self.lengths[thing]});')
 
     def call(self, thing, method, given, turns):
         values = ", ".join([f"x_{thing.name}", *(self.value(it.type, value) for it, value in given.items())])
         called = f"wuffs_{self.package}__{thing.of.name}__{method.name}({values})"
-        buffers = "".join(f'printf(" {value.name}"); say_counts(&x_{value.name}); ' for it, value in given.items()
+        buffers = "".join(f'say_buffer(" {value.name}", &x_{value.name}); ' for it, value in given.items()
                           if value is not None and not isinstance(it.type, SliceType) and it.type.name.startswith("io_"))
-        self.lines.append(f'printf("call {thing.name}.{method.name} "); {self.told(method, called)} {buffers}puts("");')
+        self.lines.append(f'say("call {thing.name}.{method.name} "); {said(method, called)} {buffers}say("\\n");')
 
     def value(self, of, value):
         if isinstance(of, SliceType):
-            return f"x_{value.name}, n_{value.name}" if value else "0, 0"
+            return f"x_{value.name}, {self.lengths[value]}" if value else "0, 0"
         if of.name.startswith("io_"):
             return f"&x_{value.name}" if value else "0"
         return f"{int(value)}{'u' if value < 2 ** 32 else 'ull'}"
 
-    def told(self, method, called):
-        of = method.result
-        if method.mark == "?" or isinstance(of, BaseType) and of.name == "status":
-            return f"say_status({called});"
-        if of is None:
-            return f'{called}; printf("done");'
-        if of.name == "bool":
-            return f'printf("%s", {called} ? "true" : "false");'
-        return f'printf("%llu", (unsigned long long){called});'
-
-    def text(self):
-        return HOST + "\n".join(self.lines + self.ends) + "\nreturn 0;\n}\n"
+    def function(self, number):
+        return "\n".join([f"static void script_{number}(void) {{", *self.lines, *self.ends, 'say("\\n");', "}\n"])
 
 
-def host_of(package, text, script):
-    read, host = Script(judged_once((text,))[1]), Host(package)
-    assert read.read(script) is None
-    for act in read.commands:
-        act(host)
-    return host.text()
+def literal(some):
+    return '"' + "".join(f"\\x{byte:02x}" for byte in some) + '"'
 
 
-def told(words, folder):
-    ended = subprocess.run(words, cwd=folder, stdin=subprocess.DEVNULL, capture_output=True, timeout=120)
-    return ended.returncode, ended.stdout.decode(errors="replace"), ended.stderr.decode(errors="replace")
+def said(method, called):
+    """A statement that makes the call and says its result."""
+    of = method.result
+    if method.mark == "?" or isinstance(of, BaseType) and of.name == "status":
+        return f"say_status({called});"
+    if of is None:
+        return f'{called}; say("done");'
+    if of.name == "bool":
+        return f'say({called} ? "true" : "false");'
+    return f"say_number({called});"
 
 
-def wrong_with(program, builds, package, text, scripts, allowed=()):
-    """What is wrong with a package's C text, or with what it prints on one of the scripts, or None."""
-    with tempfile.TemporaryDirectory() as folder:
-        pathlib.Path(folder, "f.wuffs").write_text(text)
-        status, written, _ = told([program, "gen", package, "f.wuffs"], folder)
+class Wrong(Exception):
+    """What is wrong with a text or with what it prints."""
+
+
+def ended(words, folder):
+    try:
+        came = subprocess.run(words, cwd=folder, stdin=subprocess.DEVNULL, capture_output=True, timeout=1200)
+    except subprocess.TimeoutExpired:
+        raise Wrong(f"{' '.join(words)} doesn't end") from None
+    return came.returncode, came.stdout.decode(errors="replace"), came.stderr.decode(errors="replace")
+
+
+class Package:
+    """A package with scripts; what its host program has to print of each is told when that is written."""
+
+    def __init__(self, name, package, text, scripts):
+        self.name, self.package, self.text, self.scripts, self.wanted = name, package, text, scripts, []
+
+    def write(self, program, folder):
+        """Writes the text of `gen` to PACKAGE.c, and to host_PACKAGE.c a function that plays the scripts."""
+        (folder / f"{self.package}.wuffs").write_text(self.text)
+        status, written, _ = ended([program, "gen", self.package, f"{self.package}.wuffs"], folder)
         if status:
-            return f"gen ends with {status}: {written}"
-        pathlib.Path(folder, "f.c").write_text(written)
-        for compiler in {words[0] for words in builds}:
-            for level in ["-O0", "-O2", "-O3"] if compiler != "tcc" else [""]:
-                words = [compiler, *([*STRICT, *allowed] if compiler != "tcc" else ["-Wall", "-Werror"]), *([level] if level else []), "-c", "f.c", "-o", "f.o"]
-                status, _, said = told(words, folder)
-                if status:
-                    return f"{' '.join(words)}: {said[:2000]}"
-        for script in scripts:
-            wanted, ending = report(package, [text], script)
-            if ending:
-                continue
-            pathlib.Path(folder, "host.c").write_text('#include "f.c"\n' + host_of(package, text, script))
-            for words in builds:
-                status, _, said = told([*words, "host.c", "-o", "host"], folder)
-                came = told(["./host"], folder) if not status else (status, "", said)
-                if came[:2] != (0, wanted):
-                    return f"{' '.join(words)}: {came[0]} {came[2][:1500]}\n{came[1]}\nwanted\n{wanted}\nthe script\n{script.decode()}"
-    return None
+            raise Wrong(f"gen ends with {status}: {written}")
+        (folder / f"{self.package}.c").write_text(written)
+        self.wanted = []
+        functions = [self.played(program, folder, number, script) for number, script in enumerate(self.scripts)]
+        calls = USES + "\n".join(f"script_{number}();" for number in range(len(functions)))
+        play = f"void play_{self.package}(void)"
+        (folder / f"host_{self.package}.c").write_text("\n".join([f'#include "{self.package}.c"', HOST, *functions, f"{play};", f"{play} {{", calls, "}\n"]))
+
+    def played(self, program, folder, number, script):
+        """A script as a function in C, from which is wanted what `run` and the second opinion say."""
+        second = report(self.package, [self.text], script)
+        (folder / "script").write_bytes(script)
+        status, printed, _ = ended([program, "run", self.package, "script", f"{self.package}.wuffs"], folder)
+        if (printed, status) != second:
+            raise Wrong(f"run says\n{printed}{status}\nthe second opinion\n{second[0]}{second[1]}\nthe script\n{script.decode()}")
+        lines = printed.splitlines(keepends=True)[:-1 if status == OUT_OF_TURNS else None]
+        read, host = Script(judged_once((self.text,))[1]), Host(self.package)
+        assert read.read(script) is None
+        for act in read.commands[:len(lines)]:
+            act(host)
+        self.wanted.append("".join(lines))
+        return host.function(number)
 
 
-def cases(count, seed):
-    """Packages with scripts: a name, the package's name, its text and its scripts."""
-    for script in sorted((ROOT / "examples").glob("*.script")):
-        yield script.stem, script.stem, script.with_suffix(".wuffs").read_text(), [script.read_bytes()]
+class Tests:
+    """Tests packages in a folder, and counts."""
+
+    def __init__(self, program, folder):
+        self.program, self.folder, self.passed, self.failed, self.scripts = program, folder, 0, 0, 0
+        self.remarks, self.missing = collections.Counter(), set()
+
+    def each(self, test, packages):
+        """Tests packages together, and alone where something is wrong with one of them."""
+        try:
+            test(packages)
+            self.passed += len(packages)
+        except Wrong as wrong:
+            if len(packages) == 1:
+                self.failed += 1
+                print(f"{packages[0].name}: {wrong}\nthe package\n{packages[0].text}", flush=True)
+            for it in packages if len(packages) > 1 else []:
+                self.each(test, [it])
+
+    def are_there(self, *programs):
+        missing = {it for it in programs if not shutil.which(it)}
+        self.missing |= missing
+        return not missing
+
+    def without_a_word(self, packages):
+        """The texts compile without a remark, and by all builds they print what they have to."""
+        for it in packages:
+            it.write(self.program, self.folder)
+            files, by_hand = [f"{it.package}.c"], ROOT / f"{it.name}_main.c"
+            if by_hand.exists():
+                files.append(shutil.copy(by_hand, self.folder))
+            for words in [[compiler, *LANGUAGE, level] for compiler in COMPILERS for level in LEVELS if self.are_there(compiler)]:
+                for file in files:
+                    self.compile([*words, "-c", file, "-o", "text.o"])
+        self.play([it for it in packages if it.scripts], BUILDS)
+
+    def by_fewer_builds(self, packages):
+        for it in packages:
+            it.write(self.program, self.folder)
+        self.play(packages, FEWER_BUILDS)
+
+    def with_true_remarks(self, packages):
+        for it in packages:
+            it.write(self.program, self.folder)
+        self.play(packages, FEWER_BUILDS, TRUE_REMARKS)
+
+    def play(self, packages, builds, allowed=()):
+        """A program of the packages prints what it has to, by each build. Some kinds of remarks may be allowed."""
+        language = [word for word in LANGUAGE if word != "-Werror" or not allowed]
+        names = [f"play_{it.package}" for it in packages]
+        (self.folder / "main.c").write_text(MAIN.format("\n".join(f"void {name}(void);" for name in names), " ".join(f"{name}();" for name in names)))
+        for words, runner in builds if packages else []:
+            if self.are_there(words[0], *runner[:1]):
+                words = [*words, *language]
+                self.compile([*words, *(f"host_{it.package}.c" for it in packages), "main.c", "-o", "host"], allowed)
+                self.compare(packages, words, ended([*runner, "./host"], self.folder))
+        self.scripts += sum(len(it.scripts) for it in packages)
+
+    def compile(self, words, allowed=()):
+        """Compiles, and counts the remarks, which have to be allowed."""
+        status, _, told = ended(words, self.folder)
+        remarks = [it for it in (re.search(r"warning: .*?(?:\[-W([\w-]+)\])?$", line) for line in told.splitlines()) if it]
+        wrong = [it.string for it in remarks if it[1] not in allowed]
+        if status or wrong or told and not remarks:
+            raise Wrong("\n".join([" ".join(words), *(wrong or [told[:4000]])]))
+        self.remarks.update(it[1] for it in remarks)
+
+    def compare(self, packages, words, came):
+        status, printed, told = came
+        reports = printed.split("\n\n")
+        scripts = [(it.name, script, wanted) for it in packages for script, wanted in zip(it.scripts, it.wanted)]
+        for (name, script, wanted), said in zip(scripts, [*reports, *[""] * len(scripts)]):
+            if said + "\n" != wanted:
+                raise Wrong(f"{' '.join(words)}: {name}: {status} {told[:1500]}\n{said}\nwanted\n{wanted}\nthe script\n{script.decode()}")
+        if status or printed != "".join(wanted + "\n" for _, _, wanted in scripts):
+            raise Wrong(f"{' '.join(words)}: {status} {told[:1500]}\nafter the scripts: {reports[len(scripts):]}")
+
+
+def random_scripts(declarations, source):
+    return [random_reports.Writer(declarations, source).write(60) for _ in range(2)]
+
+
+def written_packages():
+    """The packages that somebody wrote."""
+    source = random.Random(1)
+    for folder in "examples", "tests/decoders":
+        for file in sorted((ROOT / folder).glob("*.wuffs")):
+            text, script = file.read_text(), file.with_suffix(".script")
+            scripts = [script.read_bytes()] if script.exists() else random_scripts(judged_once((text,))[1], source)
+            yield Package(f"{folder}/{file.stem}", file.stem, text, scripts)
+    for file in sorted((ROOT / "examples/limits").glob("*pass*.wuffs")):
+        yield Package(f"examples/limits/{file.stem}", file.stem, file.read_text(), [])
     for name, text in report_answers.PACKAGES.items():
-        yield f"report_answers.py {name}", "k", text, [report_answers.script_of(name, lines) for _, package, lines, _ in report_answers.REPORTS if package == name]
+        scripts = [report_answers.script_of(name, lines) for _, package, lines, _ in report_answers.REPORTS if package == name]
+        yield Package(f"report_answers.py {name}", "k", text, scripts)
     for name, (text, lines) in QUIET.items():
-        yield name, "k", text, [report_answers.script_of("s", "|".join(lines))]
+        yield Package(name, "k", text, [report_answers.script_of("s", "|".join(lines))])
+
+
+def cut_packages():
+    """The packages of cut_reports.py, each with all its streams."""
+    packages = {}
+    for stream in cut_reports.streams():
+        at = packages.setdefault(stream.text, Package(f"cut_reports.py {stream.name}", stream.package, stream.text, []))
+        at.scripts += [script for _, script, _ in stream.scripts()]
+    return packages.values()
+
+
+def random_packages(count, seed):
     source = random.Random(seed)
     for number in range(count):
         text, declarations = random_reports.accepted(source)
-        yield f"random {number}", "k", text, [random_reports.Writer(declarations, source).write(60) for _ in range(2)]
+        yield Package(f"random {number}", f"k{number}", text, random_scripts(declarations, source))
 
 
 def main():
     program = os.path.abspath(sys.argv[1])
-    count, seed = (int(word) for word in (sys.argv[2:] + ["20", "1"][len(sys.argv) - 2:])[:2])
-    builds = [words for name, some in BUILDS.items() if shutil.which(name) for words in some]
-    passed = failed = 0
-    for name, package, text, scripts in cases(count, seed):
-        wrong = wrong_with(program, builds, package, text, scripts, ALLOWED_RANDOM if name.startswith("random ") else ())
-        passed += wrong is None
-        failed += wrong is not None
-        if wrong:
-            print(f"{name}: {wrong}\nthe package\n{text}", flush=True)
-    print(f"compiled_reports.py: {passed} passed, {failed} failed, with {' '.join(sorted({words[0] for words in builds})) or 'no compiler'}")
-    return 1 if failed or not passed else 0
+    count, seed, only = (sys.argv[2:] + ["20", "1", ""][len(sys.argv) - 2:])[:3]
+    with tempfile.TemporaryDirectory() as at:
+        tests = Tests(program, pathlib.Path(at))
+        for it in written_packages():
+            if only in it.name:
+                tests.each(tests.without_a_word, [it])
+        for it in cut_packages():
+            if only in it.name:
+                tests.each(tests.by_fewer_builds, [it])
+        them = (it for it in random_packages(int(count), int(seed)) if only in it.name)
+        while together := list(itertools.islice(them, TOGETHER)):
+            tests.each(tests.with_true_remarks, together)
+    for told, some in [("remarks that are true", [f"{kind} {times}" for kind, times in sorted(tests.remarks.items())]),
+                       ("passed over, since they aren't there", sorted(tests.missing))]:
+        if some:
+            print(f"{told}: {', '.join(some)}")
+    print(f"compiled_reports.py: {tests.passed} passed, {tests.failed} failed, on {tests.scripts} scripts")
+    return 1 if tests.failed or not tests.passed else 0
 
 
 if __name__ == "__main__":

@@ -75,6 +75,36 @@ class Stream:
             at += len(step.given)
         return "\n".join(lines + [f"show {name}" for name in outputs] + [f"call p.{look}" for look in self.looks]).encode() + b"\n"
 
+    def begin(self):
+        """The lines that make p ready."""
+        return ("new p {}", "init p") + ((f"call p.pick what={self.name[-1]}",) if self.struct == "k" else ())
+
+    def cuts(self):
+        """Where the input is cut: one that is closed also at its end, so that it is closed only after the package has asked for more."""
+        return range(len(self.input) + self.closes) if self.input else range(0)
+
+    def scripts(self):
+        """Each script whose turns are enough: what is told of it, the script, and whether it has to come to what the uncut one does,
+        which is the first of them."""
+        begin = self.begin()
+        yield "uncut", self.script(begin=begin), True
+        another = [f"new q {self.struct}", *self.whole("q", "qb", "qd")]
+        for cut in self.cuts():
+            yield f"cut at {cut}", self.script(cut, begin=begin), True
+            yield f"another receiver at {cut}", self.script(cut, between=another, begin=begin), True
+            for told, line in [("another coroutine", f"call p.{self.other}"), ("null", self.steps[-1].call("p", "null", "null")), ("init", "init p")]:
+                if self.other or told != "another coroutine":
+                    yield f"{told} at {cut}", self.script(cut, between=[line], begin=begin), False
+            yield f"the whole again at {cut}", self.script(cut, between=self.whole("p", "qb", "qd"), begin=begin), False
+        if self.input:
+            yield "byte by byte", self.script(EACH, begin=begin), True
+        for capacity in range(1, self.room + 1):
+            yield f"outputs of {capacity}", self.script(capacity=capacity, begin=begin), True
+            for cut in self.cuts() if capacity < 4 else []:
+                yield f"outputs of {capacity}, cut at {cut}", self.script(cut, capacity, begin=begin), True
+        yield "a null receiver", self.script(begin=("null p {}", *begin[2:])), False
+        yield "a receiver that isn't ready", self.script(begin=("new p {}", *begin[2:])), False
+
     def last(self, said):
         """The status of the last step, the bytes that were written, and the lines of what was looked at."""
         lines = said.rstrip("\n").split("\n")
@@ -137,33 +167,14 @@ class Runs:
 
     def stream(self, stream):
         (self.folder / "f.wuffs").write_text(stream.text)
-        begin = ("new p {}", "init p")
-        if stream.struct == "k":
-            begin += (f"call p.pick what={stream.name[-1]}",)
-        script = stream.script(begin=begin)
-        last = stream.last(self.compare(stream, "uncut", script, report(stream.package, [stream.text], script))[0])
-        # An input that is closed is also cut at its end: it is closed only after the package has asked for more.
-        cuts = range(len(stream.input) + stream.closes) if stream.input else []
-        for cut in cuts:
-            self.compare(stream, f"cut at {cut}", stream.script(cut, begin=begin), last=last)
-            another = ["new q {}".format(stream.struct), *stream.whole("q", "qb", "qd")]
-            self.compare(stream, f"another receiver at {cut}", stream.script(cut, between=another, begin=begin), last=last)
-            for told, line in [("another coroutine", f"call p.{stream.other}"), ("null", stream.steps[-1].call("p", "null", "null")), ("init", "init p")]:
-                if stream.other or told != "another coroutine":
-                    self.compare(stream, f"{told} at {cut}", stream.script(cut, between=[line], begin=begin))
-            self.compare(stream, f"the whole again at {cut}", stream.script(cut, between=stream.whole("p", "qb", "qd"), begin=begin))
-        if cuts:
-            self.compare(stream, "byte by byte", stream.script(EACH, begin=begin), last=last)
-        for capacity in range(1, stream.room + 1):
-            self.compare(stream, f"outputs of {capacity}", stream.script(capacity=capacity, begin=begin), last=last)
-            for cut in cuts if capacity < 4 else []:
-                self.compare(stream, f"outputs of {capacity}, cut at {cut}", stream.script(cut, capacity, begin=begin), last=last)
-        self.turns(stream, "uncut", begin=begin)
-        if cuts:
-            self.turns(stream, "cut", cut=len(stream.input) // 2, begin=begin)
-            self.turns(stream, "byte by byte", cut=EACH, begin=begin)
-        self.compare(stream, "a null receiver", stream.script(begin=("null p {}", *begin[2:])))
-        self.compare(stream, "a receiver that isn't ready", stream.script(begin=("new p {}", *begin[2:])))
+        (told, script, _), *others = stream.scripts()
+        last = stream.last(self.compare(stream, told, script, report(stream.package, [stream.text], script))[0])
+        for told, script, is_alike in others:
+            self.compare(stream, told, script, last=last if is_alike else None)
+        self.turns(stream, "uncut", begin=stream.begin())
+        if stream.input:
+            self.turns(stream, "cut", cut=len(stream.input) // 2, begin=stream.begin())
+            self.turns(stream, "byte by byte", cut=EACH, begin=stream.begin())
 
 
 def main():

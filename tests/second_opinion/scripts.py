@@ -297,7 +297,7 @@ def result(method, answer):
     return str(answer).lower()
 
 
-@functools.lru_cache(4)
+@functools.lru_cache(16)
 def judged_once(files):
     """What `check` has to print of files with these texts, which are a tuple, and their declarations where they are accepted."""
     kept = []
