@@ -2,7 +2,8 @@
 """How the cost of `check` grows with a package. It isn't part of .ci/run.
 
 usage: check_benchmark.py PROGRAM [SHAPE..]    all shapes are the default
-Each shape is a package that is accepted and grows in one way, by steps of two, up to what its limit allows. Where valgrind is
+Each shape is a package that is accepted and grows in one way, by steps of about two, up to the limit that ends it: the greatest
+number of methods, statements, facts, points, arguments or files, 48 open brackets (47 loops), or 262,144 tokens. Where valgrind is
 there, what is counted is instructions, which are the same on every run; else it is seconds, of the least of three runs. The cost
 of a package without declarations is taken off. For each step comes the exponent of its growth: 1.00 is in proportion, and what
 passes 1.10 at the last step, where the package is largest, is told as too much. The memory is by how much more the process held at
@@ -41,6 +42,19 @@ def methods(n):
     return package(*(method(f"m{i}", "a: base.u32", " base.u32", ["return args.a"]) for i in range(n)))
 
 
+def arguments(n):
+    """A chain of methods of which each hands its arguments on, the last one first."""
+    declared = ", ".join(f"a{i}: base.u32" for i in range(n))
+    given = ", ".join(f"a{i}: args.a{i}" for i in reversed(range(n)))
+    return package(*(method(f"m{j}", declared, "", [f"this.m{j + 1}!({given})"], mark="!") for j in range(320)),
+                   method("m320", declared, "", ["this.x = args.a0"], mark="!"), fields="x : base.u32")
+
+
+def files(n):
+    """Files of constants, of which sixteen have nearly as many tokens as a package may have."""
+    return ["".join(f"pri const C_{i} : base.u32 = {i % 1000}\n" for i in range(1638 * j, 1638 * (j + 1))) for j in range(n)]
+
+
 def statements(n):
     return package(method("f", "a: base.u32", "", ["var x : base.u32", *(["x = args.a", "x = 7"] * (n // 2 - 1))]))
 
@@ -57,9 +71,8 @@ def points(n):
 
 
 def nested_loops(n):
-    opening = ["    " * i + "while x < 100, inv x <= 100, inv y < 9, {" for i in range(n)]
-    closing = ["    " * i + "} endwhile" for i in reversed(range(n))]
-    body = ["var x : base.u32", "var y : base.u32", *opening, *closing]
+    """Loops in one another, whose lines aren't indented, so that the package grows in proportion."""
+    body = ["var x : base.u32", "var y : base.u32", *["while x < 100, inv x <= 100, inv y < 9, {"] * n, *["} endwhile"] * n]
     return package(*(method(f"m{i}", "", "", body) for i in range(64)))
 
 
@@ -89,18 +102,22 @@ def copying(n):
 SHAPES = {
     "tokens": (tokens, (3276, 6552, 13104, 26208)),
     "methods": (methods, (128, 256, 512, 1024)),
+    "arguments": (arguments, (8, 16, 32, 64)),
+    "files": (files, (2, 4, 8, 16)),
     "statements": (statements, (512, 1024, 2048, 4096)),
     "facts": (facts, (64, 128, 256, 511)),
     "points": (points, (128, 256, 512, 1024)),
-    "nested loops": (nested_loops, (5, 10, 20, 40)),
-    "else ifs": (else_ifs, (512, 1024, 2048, 4096)),
-    "operands": (operands, (500, 1000, 2000, 4000)),
-    "conditions": (conditions, (500, 1000, 2000, 4000)),
+    "nested loops": (nested_loops, (6, 12, 24, 47)),
+    "else ifs": (else_ifs, (3640, 7280, 14560, 29120)),
+    "operands": (operands, (8190, 16380, 32760, 65520)),
+    "conditions": (conditions, (5460, 10920, 21840, 43680)),
 }
 
 
 class Meter:
-    """Runs `check` on a text and tells what it costs."""
+    """Runs `check` on a package and tells what it costs."""
+
+    command = "check"
 
     def __init__(self, program, folder):
         self.program, self.folder = program, folder
@@ -108,8 +125,12 @@ class Meter:
         self.start = self.cost("")
 
     def words(self, text):
-        (self.folder / "n.wuffs").write_text(text)
-        return [self.program, "check", "n", "n.wuffs"]
+        """The words that check a package: a text, or the texts of its files."""
+        names = []
+        for number, one in enumerate([text] if isinstance(text, str) else text):
+            names.append(f"n{number}.wuffs")
+            (self.folder / names[-1]).write_text(one)
+        return [self.program, self.command, "n", *names]
 
     def answer(self, words):
         ran = subprocess.run(words, cwd=self.folder, capture_output=True, text=True)
@@ -142,8 +163,14 @@ class Meter:
         held = self.memory(words)
         if not self.counts:
             return self.seconds(words), held
-        ran = self.answer(["valgrind", "--tool=callgrind", "--callgrind-out-file=/dev/null", *words])
-        return int(re.search(r"Collected : (\d+)", ran.stderr)[1]), held
+        # Cachegrind without its caches counts the same instructions as callgrind in a quarter of the time.
+        ran = self.answer(["valgrind", "--tool=cachegrind", "--cache-sim=no", "--cachegrind-out-file=/dev/null", *words])
+        return int(re.search(r"I +refs: +([\d,]+)", ran.stderr)[1].replace(",", "")), held
+
+
+def size_of(text):
+    """The bytes of a package, which is a text or the texts of its files."""
+    return len(text) if isinstance(text, str) else sum(map(len, text))
 
 
 def grows(meter, name, make, sizes):
@@ -152,12 +179,12 @@ def grows(meter, name, make, sizes):
     for n in sizes:
         text = make(n)
         counted, held = meter.cost(text)
-        first = first or (len(text) - 1, held)
-        cost, memory = counted - meter.start[0], (held - first[1]) / (len(text) - first[0])
-        exponent = math.log2(cost / before) if before and before > 0 < cost else None
+        first = first or (size_of(text) - 1, held)
+        cost, memory = counted - meter.start[0], (held - first[1]) / (size_of(text) - first[0])
+        exponent = math.log(cost / before[0]) / math.log(n / before[1]) if before and before[0] > 0 < cost else None
         shown = f"{cost / 1e6:12.2f} M" if meter.counts else f"{cost:12.3f} s"
-        print(f"{name:14} {n:6} {len(text):8} bytes {shown} {'' if exponent is None else f'{exponent:6.2f}':6} {memory:7.1f} bytes a byte", flush=True)
-        before = cost
+        print(f"{name:14} {n:6} {size_of(text):8} bytes {shown} {'' if exponent is None else f'{exponent:6.2f}':6} {memory:7.1f} bytes a byte", flush=True)
+        before = cost, n
     if exponent > MOST_EXPONENT:
         good = False
         print(f"{name}: it grows with an exponent of {exponent:.2f}, above {MOST_EXPONENT}")

@@ -3,8 +3,8 @@
 growth.
 
 usage: compiler_benchmark.py PROGRAM [--growth] [SHAPE..]    all shapes are the default
-The shapes are those of check_benchmark.py and a few of what `gen` alone makes much of; each grows by steps of two up to what its limit
-allows. What is counted is as it is there: instructions, where valgrind is there. The cost of a package without declarations is
+The shapes are those of check_benchmark.py and a few of what `gen` alone makes much of; each grows by steps of about two up to the limit
+that ends it. What is counted is as it is there: instructions, where valgrind is there. The cost of a package without declarations is
 taken off. For each step comes the exponent of its growth, over the step's factor or that of the bytes read and written where this is
 larger, since the text of a coroutine grows with its points times its locals; what passes 1.10 at the last step is told as too much,
 and ends the run with 1. With --growth that is all, and without valgrind nothing is measured then, since seconds tell too little.
@@ -55,9 +55,9 @@ def unread(n):
 
 SHAPES = {
     **check_benchmark.SHAPES,
-    "unread": (unread, (4096, 8192, 16384, 32768)),
-    "fields": (fields, (2048, 4096, 8192, 16384)),
-    "structs": (structs, (512, 1024, 2048, 4096)),
+    "unread": (unread, (4670, 9340, 18680, 37360)),
+    "fields": (fields, (5420, 10840, 21680, 43360)),
+    "structs": (structs, (2520, 5040, 10080, 20160)),
     "statuses": (statuses, (128, 256, 512, 1024)),
     "locals": (local_variables, (32, 64, 128, 256)),
     "copying": (check_benchmark.copying, (105, 210, 420, 840)),
@@ -65,13 +65,10 @@ SHAPES = {
 
 
 class Meter(check_benchmark.Meter):
-    """Runs `gen` on a text and tells what it costs."""
+    """Runs `gen` on a package and tells what it costs."""
 
+    command = "gen"
     written = 0
-
-    def words(self, text):
-        (self.folder / "n.wuffs").write_text(text)
-        return [self.program, "gen", "n", "n.wuffs"]
 
     def answer(self, words):
         ran = subprocess.run(words, cwd=self.folder, capture_output=True, text=True)
@@ -87,11 +84,12 @@ def grows(meter, name, make, sizes):
     for n in sizes:
         text = make(n)
         cost = meter.cost(text)[0] - meter.start[0]
-        size = len(text) + meter.written
+        read = check_benchmark.size_of(text)
+        size = read + meter.written
         if before:
             exponent = math.log(cost / before[0]) / math.log(max(n / before[2], size / before[1]))
         shown = f"{cost / 1e6:12.2f} M" if meter.counts else f"{cost:12.3f} s"
-        print(f"{name:14} {n:6} {len(text):8} bytes, {meter.written:8} of C {shown} {f'{exponent:6.2f}' if before else ''}", flush=True)
+        print(f"{name:14} {n:6} {read:8} bytes, {meter.written:8} of C {shown} {f'{exponent:6.2f}' if before else ''}", flush=True)
         before = cost, size, n
     if exponent > check_benchmark.MOST_EXPONENT:
         print(f"{name}: it grows with an exponent of {exponent:.2f}, above {check_benchmark.MOST_EXPONENT}")
@@ -117,7 +115,7 @@ def beside_compilers(meter, name, text):
     written = (meter.folder / "n.c").stat().st_size
     times = ", ".join(f"{it} {took:.3f} s" for it, took in least.items())
     factor = f", factor {least['gen'] / least['tcc']:.1f}" if "tcc" in least else ""
-    print(f"{name:14} {len(text):8} bytes, {written:8} of C: {times}{factor}", flush=True)
+    print(f"{name:14} {check_benchmark.size_of(text):8} bytes, {written:8} of C: {times}{factor}", flush=True)
 
 
 def main():
