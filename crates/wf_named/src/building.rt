@@ -49,6 +49,17 @@ impl Drop for NamedNodes {
     }
 }
 
+/// What the typed package takes over from the resolved one.
+#[derive(Drop)]
+pub struct NameAndOrders {
+    /// The name of the package.
+    pub package_name: Vec<u8>,
+    /// The order of the methods, by number.
+    pub order: Vec<u32>,
+    /// The order of the structs, by number.
+    pub struct_order: Vec<u32>,
+}
+
 impl Model for NamedNodes {
     ghost use Rattle.wf_named.specs.NamedParts.{NamedParts, IsShaped};
 
@@ -194,5 +205,30 @@ impl NamedNodes {
         ensures package { named_package self.new ≡ record (named_package self.old) { struct_order = struct_order.items } }
     {
         self.struct_order = struct_order;
+    }
+
+    /// The package's name and its orders. All else is given up.
+    pub fn into_name_and_orders(self) -> NameAndOrders
+        ensures name { result.package_name.items ≡ self.package_name }
+        ensures order { result.order.items ≡ self.order }
+        ensures structs { result.struct_order.items ≡ self.struct_order }
+    {
+        let NamedNodes {
+            package_name,
+            texts: _,
+            exprs: _,
+            stmts: _,
+            consts: _,
+            statuses: _,
+            structs: _,
+            methods: _,
+            order,
+            struct_order,
+        } = self;
+        NameAndOrders {
+            package_name,
+            order,
+            struct_order,
+        }
     }
 }

@@ -9,7 +9,7 @@ pub mod named;
 pub mod nodes;
 pub mod reading;
 
-pub use building::NamedNodes;
+pub use building::{NameAndOrders, NamedNodes};
 pub use declarations::{NamedConst, NamedMethod, NamedStruct, NamedVar};
 pub use named::Named;
 pub use nodes::{

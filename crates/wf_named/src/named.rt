@@ -34,10 +34,10 @@ impl Named {
 
     /// What the package is made of. The rules of names hold of it, it is as the grammar gives, and its statements stand in
     /// order.
-    pub fn nodes(&self) -> &NamedNodes
-        ensures same { result.now ≡ self.now }
-        ensures rules { IsNamed self.now }
+    pub fn into_nodes(self) -> NamedNodes
+        ensures same { result ≡ self }
+        ensures rules { IsNamed self }
     {
-        &self.nodes
+        self.nodes
     }
 }

@@ -28,7 +28,7 @@ use Rattle.wf_typed_tree.specs.Entries.{entries, method_entries}
 use Rattle.wf_typed_exprs.specs.Growth.{AddsEntries}
 use Rattle.wf_typed_stmts.specs.StmtGrowth.{jump_below, jumps_below, GrowsStmts, Adds, IsBegun, StandsForBlock}
 use Rattle.wf_types.specs.Bodies.{IsBody, AreBodies, BodiesMade}
-use Rattle.wf_types.specs.DeclaredNodes.{declared_method, declared_nodes}
+use Rattle.wf_types.specs.DeclaredNodes.{declared_method, declared_nodes, without_name_and_orders}
 use Rattle.wf_types.specs.Locals.{places_of, HaveNodes, MethodsHaveNodes}
 use Rattle.wf_types.proofs.EntryLemmas.{entries_more}
 use Rattle.wf_types.proofs.LocalLemmas.{methods_with}
@@ -126,15 +126,15 @@ marks_declared : (q : NamedParts) → map (λ (m : Method). m.mark) (declared_no
 unfolding declared_nodes named_package
 marks_declared q = marks_of q q.methods
 
-begun : (q : NamedParts) → IsBegun q (declared_nodes q)
+begun : (q : NamedParts) → IsBegun q (without_name_and_orders (declared_nodes q))
 unfolding declared_nodes
 begun q = record { texts = texts_declared q; statuses = statuses_declared q; marks = marks_declared q; stmts = record { ordered = refl; few = omega arith } }
 
-none_made : (q : NamedParts) → BodiesMade q [] (declared_nodes q) []
+none_made : (q : NamedParts) → BodiesMade q [] (without_name_and_orders (declared_nodes q)) []
 unfolding declared_nodes entries
 none_made q = record { entries = refl; declared = refl; begun = begun q; jumps = refl; count = refl; bodies = tt }
 
-pub bodies_begun : (q : NamedParts) (nodes : TypedNodes) → nodes ≡ declared_nodes q → BodiesMade q [] nodes []
+pub bodies_begun : (q : NamedParts) (nodes : TypedNodes) → nodes ≡ without_name_and_orders (declared_nodes q) → BodiesMade q [] nodes []
 bodies_begun q nodes h = let P : TypedNodes → Type 0 = λ x. BodiesMade q [] x [] in subst P (sym h) (none_made q)
 
 -- The methods in order.

@@ -8,6 +8,7 @@ use Rattle.wf_ast.specs.declared.typed_code.Block as typed_code
 use Rattle.wf_ast.specs.declared.typed_nodes.TypedNodes.{TypedNodes}
 use Rattle.wf_named.specs.declared.declarations.NamedVar.{NamedVar}
 use Rattle.wf_named.specs.declared.nodes.Variable.TheVariants as variables
+use Rattle.wf_named.specs.NamedParts.{NamedParts}
 use Rattle.wf_named.specs.NamedTree.{NamedExprTree, NamedBlockTree, NamedMethodTree, NamedPackageTree}
 use Rattle.wf_named.specs.NamedTrees.{var_made}
 use Rattle.wf_types_rules.specs.declared.settings.Setting.{Setting}
@@ -16,6 +17,7 @@ use Rattle.wf_typed_tree.specs.Entries.{entries, path_entry, local_entries, bloc
 use Rattle.wf_typed_exprs.specs.Growth.{AddsEntries}
 use Rattle.wf_typed_exprs.proofs.EntryLemmas.{adds_then}
 use Rattle.wf_typed_stmts.proofs.EntryLemmas.{EntriesTo, entries_to_next, entries_to_end}
+use Rattle.wf_types.specs.Bodies.{finished}
 use Rattle.wf_types.specs.Locals.{places_of, places_named}
 use Rattle.wf_types.proofs.LocalLemmas.{below_length, same_places}
 
@@ -58,6 +60,6 @@ pub entries_more : (p : NamedPackageTree) (ms : List NamedMethodTree) (m : Named
 entries_more p ms m old new is adds = adds.is ∙ ap (λ es. es ++ method_entries p m) is ∙ sym (methods_added p ms m)
 
 -- Bodies have no entries.
-pub entries_with : (nodes : TypedNodes) (bs : List typed_code.Block) (es : List ExprId) → entries (record nodes { bodies = bs; first_locals = es }) ≡ entries nodes
+pub entries_with : (q : NamedParts) (nodes : TypedNodes) (bs : List typed_code.Block) (es : List ExprId) → entries (finished q nodes bs es) ≡ entries nodes
 unfolding entries
-entries_with nodes bs es = refl
+entries_with q nodes bs es = refl

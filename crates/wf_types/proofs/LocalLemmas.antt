@@ -37,6 +37,7 @@ use Rattle.wf_typed_exprs.proofs.AroundLaws as standing
 use Rattle.wf_typed_stmts.specs.StmtGrowth.{GrowsStmts, GrowsExprs, StandsForBlock}
 use Rattle.wf_typed_stmts.proofs.GrowthLemmas.{stands_kept, stmts_of_exprs, count_same}
 use Rattle.wf_types.proofs.NodePlaces.{read_of, local_read, place_of_read}
+use Rattle.wf_types.specs.Bodies.{finished}
 use Rattle.wf_types.specs.DeclaredNodes.{type_or_flag, variable_with, variables_with, declared_method}
 use Rattle.wf_types.specs.Locals.{places_of, places_named, local_path, IsNode, FirstHaveNodes, HaveNodes, MethodsHaveNodes, AreRightPaths, AreRightLocals}
 
@@ -119,21 +120,21 @@ methods_with p old new (f ∷ es) [] e m g h here = absurd h
 methods_with p old new (f ∷ es) (n ∷ ms) e m g h here = (nodes_kept (in_method p n) old new f.0 (places_of n.locals) g h.0, methods_with p old new es ms e m g h.1 here)
 
 -- The bodies of a package change no node.
-tree_placed : (nodes : TypedNodes) (bs : List typed_code.Block) (fs : List ExprId) (e : ExprId) → tree_of (record nodes { bodies = bs; first_locals = fs }) e ≡ tree_of nodes e
+tree_placed : (q : NamedParts) (nodes : TypedNodes) (bs : List typed_code.Block) (fs : List ExprId) (e : ExprId) → tree_of (finished q nodes bs fs) e ≡ tree_of nodes e
 unfolding expr_trees
-tree_placed nodes bs fs e = refl
+tree_placed q nodes bs fs e = refl
 
-pub locals_placed : (p : NamedPackageTree) (nodes : TypedNodes) (bs : List typed_code.Block) (all es : List ExprId) (ms : List NamedMethodTree) → MethodsHaveNodes p nodes es ms
-    → MethodsHaveNodes p (record nodes { bodies = bs; first_locals = all }) es ms
-locals_placed p nodes bs all [] [] h = tt
-locals_placed p nodes bs all [] (m ∷ ms) h = absurd h
-locals_placed p nodes bs all (e ∷ es) [] h = absurd h
-locals_placed p nodes bs all (e ∷ es) (m ∷ ms) h = (here, locals_placed p nodes bs all es ms h.1)
+pub locals_placed : (p : NamedPackageTree) (q : NamedParts) (nodes : TypedNodes) (bs : List typed_code.Block) (all es : List ExprId) (ms : List NamedMethodTree) → MethodsHaveNodes p nodes es ms
+    → MethodsHaveNodes p (finished q nodes bs all) es ms
+locals_placed p q nodes bs all [] [] h = tt
+locals_placed p q nodes bs all [] (m ∷ ms) h = absurd h
+locals_placed p q nodes bs all (e ∷ es) [] h = absurd h
+locals_placed p q nodes bs all (e ∷ es) (m ∷ ms) h = (here, locals_placed p q nodes bs all es ms h.1)
   where
-    here : HaveNodes (in_method p m) (record nodes { bodies = bs; first_locals = all }) e.0 (places_of m.locals)
+    here : HaveNodes (in_method p m) (finished q nodes bs all) e.0 (places_of m.locals)
     here l at k =
         let it = h.0 l at k in
-        record { there = it.there; tree_is = tree_placed nodes bs all (record { 0 = e.0 + l }) ∙ it.tree_is; typed = it.typed; counted = it.counted }
+        record { there = it.there; tree_is = tree_placed q nodes bs all (record { 0 = e.0 + l }) ∙ it.tree_is; typed = it.typed; counted = it.counted }
 
 -- Each local of a package that breaks no rule means something, and is no struct.
 local_whole : (ty : Ty) → may_be roles.Local ty ≡ true → is_struct (meanings.Typed ty) ≡ false

@@ -43,8 +43,8 @@ use Rattle.wf_typed_tree.proofs.NoBreaks.{AllFine, at-none, not-not}
 use Rattle.wf_typed_tree.proofs.NumberingLaws.{package-numbers}
 use Rattle.wf_typed_exprs.specs.Growth.{IsBuilt}
 use Rattle.wf_typed_stmts.specs.StmtGrowth.{without_nodes, stmt_there, jump_below, jumps_below}
-use Rattle.wf_types.specs.Bodies.{without_bodies, AreBodies, BodiesMade, IsWhole, has_numbers}
-use Rattle.wf_types.specs.DeclaredNodes.{variables_with, declared_method, seen_statuses, declared_nodes}
+use Rattle.wf_types.specs.Bodies.{without_bodies, AreBodies, BodiesMade, IsWhole, finished, has_numbers}
+use Rattle.wf_types.specs.DeclaredNodes.{variables_with, declared_method, seen_statuses, declared_nodes, without_name_and_orders}
 use Rattle.wf_types.specs.Locals.{MethodsHaveNodes}
 use Rattle.wf_types.proofs.EntryLemmas.{entries_with}
 use Rattle.wf_types.proofs.LocalLemmas.{locals_placed, locals_stand}
@@ -125,41 +125,45 @@ unfolding declared_nodes named_package
 methods_long q = length-map q.methods (declared_method q) ∙ sym (length-map q.methods (method_made q.texts (exprs_of q) (stmts_of q)))
 
 -- The bodies change no tree.
-blocks_same : (nodes : TypedNodes) (bs : List typed_code.Block) (es : List ExprId) (b : typed_code.Block) → block_of (record nodes { bodies = bs; first_locals = es }) b ≡ block_of nodes b
+blocks_same : (q : NamedParts) (nodes : TypedNodes) (bs : List typed_code.Block) (es : List ExprId) (b : typed_code.Block) → block_of (finished q nodes bs es) b ≡ block_of nodes b
 unfolding stmt_makers expr_trees
-blocks_same nodes bs es b = refl
+blocks_same q nodes bs es b = refl
 
-bodies_placed : (p : NamedPackageTree) (nodes : TypedNodes) (all : List typed_code.Block) (es : List ExprId) (n : ℕ) (ms : List NamedMethodTree) (bs : List typed_code.Block) → AreBodies p nodes n ms bs
-    → AreBodies p (record nodes { bodies = all; first_locals = es }) n ms bs
-bodies_placed p nodes all es n [] [] h = tt
-bodies_placed p nodes all es n [] (b ∷ bs) h = absurd h
-bodies_placed p nodes all es n (m ∷ ms) [] h = absurd h
-bodies_placed p nodes all es n (m ∷ ms) (b ∷ bs) h =
-    (record { below = h.0.below; makes = blocks_same nodes all es b ∙ h.0.makes }, bodies_placed p nodes all es (n + count_block m.body) ms bs h.1)
+bodies_placed : (p : NamedPackageTree) (q : NamedParts) (nodes : TypedNodes) (all : List typed_code.Block) (es : List ExprId) (n : ℕ) (ms : List NamedMethodTree) (bs : List typed_code.Block) → AreBodies p nodes n ms bs
+    → AreBodies p (finished q nodes all es) n ms bs
+bodies_placed p q nodes all es n [] [] h = tt
+bodies_placed p q nodes all es n [] (b ∷ bs) h = absurd h
+bodies_placed p q nodes all es n (m ∷ ms) [] h = absurd h
+bodies_placed p q nodes all es n (m ∷ ms) (b ∷ bs) h =
+    (record { below = h.0.below; makes = blocks_same q nodes all es b ∙ h.0.makes }, bodies_placed p q nodes all es (n + count_block m.body) ms bs h.1)
 
-declared_alone : (q : NamedParts) → without_bodies (declared_nodes q) ≡ declared_nodes q
+-- With its name and its orders, what was declared is all that is declared.
+abbrev handed_on : NamedParts → TypedNodes → TypedNodes
+handed_on q nodes = without_bodies (finished q nodes [] [])
+
+declared_alone : (q : NamedParts) → handed_on q (without_name_and_orders (declared_nodes q)) ≡ declared_nodes q
 unfolding declared_nodes
 declared_alone q = refl
 
 whole_made : (q : NamedParts) (nodes : TypedNodes) (bs : List typed_code.Block) (es : List ExprId) → BodiesMade q (named_package q).methods nodes bs
-    → MethodsHaveNodes (named_package q) nodes es (named_package q).methods → IsBuilt nodes → IsWhole q (record nodes { bodies = bs; first_locals = es })
+    → MethodsHaveNodes (named_package q) nodes es (named_package q).methods → IsBuilt nodes → IsWhole q (finished q nodes bs es)
 whole_made q nodes bs es made locals built = record {
-  declared = ap without_bodies made.declared ∙ declared_alone q;
-  bodies = bodies_placed (named_package q) nodes bs es 0 (named_package q).methods bs made.bodies;
-  entries = entries_with nodes bs es ∙ made.entries;
+  declared = ap (handed_on q) made.declared ∙ declared_alone q;
+  bodies = bodies_placed (named_package q) q nodes bs es 0 (named_package q).methods bs made.bodies;
+  entries = entries_with q nodes bs es ∙ made.entries;
   exprs = record { ordered = built.ordered; kinds = built.kinds; typed = built.typed; counted = built.counted; few = built.few };
   stmts = record { ordered = made.begun.stmts.ordered; few = made.begun.stmts.few };
   jumps = made.jumps;
   count = made.count;
-  locals = locals_placed (named_package q) nodes bs es es (named_package q).methods locals;
+  locals = locals_placed (named_package q) q nodes bs es es (named_package q).methods locals;
 }
 
-pub declared_bare : (q : NamedParts) → without_nodes (declared_nodes q) ≡ declared_nodes q
+pub declared_bare : (q : NamedParts) → without_nodes (without_name_and_orders (declared_nodes q)) ≡ without_name_and_orders (declared_nodes q)
 unfolding declared_nodes
 declared_bare q = refl
 
 pub whole_at : (q : NamedParts) (nodes all whole : TypedNodes) (bs : List typed_code.Block) (es : List ExprId) → BodiesMade q (named_package q).methods nodes bs
-    → MethodsHaveNodes (named_package q) nodes es (named_package q).methods → all ≡ nodes → IsBuilt all → whole ≡ record all { bodies = bs; first_locals = es } → IsWhole q whole
+    → MethodsHaveNodes (named_package q) nodes es (named_package q).methods → all ≡ nodes → IsBuilt all → whole ≡ finished q all bs es → IsWhole q whole
 whole_at q nodes all whole bs es made locals same built is =
     let M : TypedNodes → Type 0 = λ x. BodiesMade q (named_package q).methods x bs in
     let L : TypedNodes → Type 0 = λ x. MethodsHaveNodes (named_package q) x es (named_package q).methods in

@@ -1,5 +1,6 @@
 -- The bodies of a package's methods among its nodes.
 use Rattle.std.specs.Prelude.{◌≡◌, ◌+◌, ℕ, ⊤, Bool, true, ◌&&◌, List, [], ◌∷◌, length, slice_get, Some, nat_lt}
+use Rattle.wf_ast.specs.declared.numbers.ExprId.{ExprId}
 use Rattle.wf_ast.specs.declared.typed_code.Block as typed_code
 use Rattle.wf_ast.specs.declared.typed_nodes.TypedNodes.{TypedNodes}
 use Rattle.wf_ast.specs.TypedTrees.{block_of}
@@ -14,7 +15,7 @@ use Rattle.wf_typed_tree.specs.Entries.{methods_entries}
 use Rattle.wf_typed_exprs.specs.Growth.{IsBuilt}
 use Rattle.wf_typed_stmts.specs.Right.{known_in, IsRightBlock}
 use Rattle.wf_typed_stmts.specs.StmtGrowth.{without_nodes, jumps_below, AreStmtsBuilt, IsBegun}
-use Rattle.wf_types.specs.DeclaredNodes.{declared_nodes}
+use Rattle.wf_types.specs.DeclaredNodes.{declared_nodes, without_name_and_orders}
 use Rattle.wf_types.specs.Locals.{MethodsHaveNodes}
 
 -- What is declared there.
@@ -34,12 +35,16 @@ AreBodies p nodes n ms bodies = ⊥
 
 -- What is made while the bodies of methods are added one by one: `done` are the methods that have theirs.
 pub record BodiesMade (q : NamedParts) (done : List NamedMethodTree) (nodes : TypedNodes) (made : List typed_code.Block) : Type 0 where
-  pub declared : without_nodes nodes ≡ declared_nodes q
+  pub declared : without_nodes nodes ≡ without_name_and_orders (declared_nodes q)
   pub begun : IsBegun q nodes
   pub jumps : jumps_below (length nodes.stmts) nodes.stmts ≡ true
   pub count : length nodes.stmts ≡ count_methods done
   pub bodies : AreBodies (named_package q) nodes 0 done made
   pub entries : known.entries nodes ≡ methods_entries (named_package q) done
+
+-- Nodes with these bodies and these first locals, to which the name and the orders of the resolved package are handed on.
+abbrev pub finished : NamedParts → TypedNodes → List typed_code.Block → List ExprId → TypedNodes
+finished q nodes bodies first_locals = record nodes { «package» = q.package_name; bodies = bodies; first_locals = first_locals; order = q.order; struct_order = q.struct_order }
 
 -- The nodes of a package with all its bodies. Each jump tells a statement, and each local has its expression.
 pub record IsWhole (q : NamedParts) (nodes : TypedNodes) : Type 0 where

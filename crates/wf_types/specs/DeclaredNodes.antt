@@ -60,6 +60,10 @@ declared_method q m =
 abbrev pub seen_statuses : NamedParts → List (List ℕ)
 seen_statuses q = base_statuses ++ map (λ w. seen_text q.package_name w.text) (map (word_at q.texts) q.statuses)
 
+-- Nodes to which the name and the orders of their package aren't handed on yet.
+abbrev pub without_name_and_orders : TypedNodes → TypedNodes
+without_name_and_orders nodes = record nodes { «package» = []; order = []; struct_order = [] }
+
 -- What a package declares: no expression, no statement and no body yet.
 unfoldable pub declared_nodes : NamedParts → TypedNodes
 declared_nodes q =

@@ -10,7 +10,7 @@ ghost use Rattle.wf_typed_exprs.specs.Growth.{AddsEntries};
 ghost use Rattle.wf_typed_stmts.specs.Right.{known_in, IsRightBlock};
 ghost use Rattle.wf_typed_stmts.specs.StmtGrowth.{Adds, IsBegun, StandsForBlock};
 ghost use Rattle.wf_types.specs.Bodies.{AreRightBodies, BodiesMade};
-ghost use Rattle.wf_types.specs.DeclaredNodes.{declared_nodes};
+ghost use Rattle.wf_types.specs.DeclaredNodes.{declared_nodes, without_name_and_orders};
 ghost use Rattle.wf_types.specs.Locals.{places_of, HaveNodes, AreRightPaths, MethodsHaveNodes, AreRightLocals};
 
 use crate::locals::elaborate_locals;
@@ -69,7 +69,7 @@ pub(crate) fn elaborate_bodies(
     judged: Judged,
 ) -> Result<MadeBodies, NoMemory>
     requires judged { IsJudged (named_package named.now) judged }
-    requires declared { nodes.old ≡ declared_nodes named.now }
+    requires declared { nodes.old ≡ without_name_and_orders (declared_nodes named.now) }
     requires right { AreRightBodies (named_package named.now) }
     requires paths { AreRightLocals (named_package named.now) }
     ensures bodies { IfOk result (λ made. BodiesMade named.now (named_package named.now).methods nodes.new made.bodies) }

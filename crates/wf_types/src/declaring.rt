@@ -4,7 +4,7 @@ ghost use Rattle.std.specs.Prelude.{◌≡◌, [], IfOk};
 ghost use Rattle.wf_named.specs.NamedParts.{named_package};
 ghost use Rattle.wf_types_rules.specs.DeclaredTypes.{status_texts};
 ghost use Rattle.wf_types_decls.specs.Packages.{IsJudged};
-ghost use Rattle.wf_types.specs.DeclaredNodes.{declared_nodes};
+ghost use Rattle.wf_types.specs.DeclaredNodes.{declared_nodes, without_name_and_orders};
 
 use crate::declared::{methods, structs};
 use crate::texts::{seen_statuses, texts_copied};
@@ -14,22 +14,19 @@ use wf_named::NamedNodes;
 use wf_text::faults::NoMemory;
 use wf_types_decls::Judged;
 
-// A package of this name with its texts and its orders, in which nothing is declared yet.
+// A package with these texts, in which nothing is declared yet. It gets its name and its orders later.
 fn nothing_declared(
     alloc: Global,
     nodes: &NamedNodes,
     statuses: &[Sequence<u8>],
 ) -> Result<TypedNodes, NoMemory>
     requires { statuses.now ≡ status_texts (named_package nodes.now) }
-    ensures { IfOk result (λ all. all ≡ record (declared_nodes nodes.now) { structs = []; methods = [] }) }
+    ensures { IfOk result (λ all. all ≡ without_name_and_orders (record (declared_nodes nodes.now) { structs = []; methods = [] })) }
 {
-    let package = Sequence::from_slice(alloc, nodes.package_name())?;
     let statuses = seen_statuses(alloc, nodes, statuses)?;
     let texts = texts_copied(alloc, nodes)?;
-    let order = Sequence::from_slice(alloc, nodes.order())?;
-    let struct_order = Sequence::from_slice(alloc, nodes.struct_order())?;
     Ok(TypedNodes {
-        package,
+        package: Sequence::new(alloc),
         statuses,
         texts,
         exprs: Sequence::new(alloc),
@@ -40,19 +37,19 @@ fn nothing_declared(
         methods: Sequence::new(alloc),
         bodies: Sequence::new(alloc),
         first_locals: Sequence::new(alloc),
-        order,
-        struct_order,
+        order: Sequence::new(alloc),
+        struct_order: Sequence::new(alloc),
     })
 }
 
-/// What a package declares that was judged. `Err` also comes where it has more texts than there are numbers.
+/// What a package declares that was judged, but for its name and its orders. `Err` also comes where it has more texts than there are numbers.
 pub(crate) fn declared(
     alloc: Global,
     nodes: &NamedNodes,
     judged: &Judged,
 ) -> Result<TypedNodes, NoMemory>
     requires { IsJudged (named_package nodes.now) judged.now }
-    ensures { IfOk result (λ all. all ≡ declared_nodes nodes.now) }
+    ensures { IfOk result (λ all. all ≡ without_name_and_orders (declared_nodes nodes.now)) }
 {
     let mut all = nothing_declared(alloc, nodes, judged.around.statuses.as_slice())?;
     all.structs = structs(alloc, nodes, judged.fields.as_slice())?;

@@ -11,7 +11,7 @@ ghost use Rattle.wf_named.specs.Grammar.{package_by_grammar};
 ghost use Rattle.wf_types_rules.specs.FirstBreak.{deciding};
 ghost use Rattle.wf_typed_tree.specs.ElaboratedPackage.{typed_package};
 ghost use Rattle.wf_types_decls.specs.Packages.{IsJudged};
-ghost use Rattle.wf_types.specs.Bodies.{AreRightBodies, IsWhole, has_numbers as are_numbered, without_bodies};
+ghost use Rattle.wf_types.specs.Bodies.{AreRightBodies, IsWhole, finished, has_numbers as are_numbered, without_bodies};
 ghost use Rattle.wf_types.specs.DeclaredNodes.{declared_nodes};
 ghost use Rattle.wf_typed_tree.specs.Entries as known;
 ghost use Rattle.wf_typed_tree.specs.Entries.{package_entries};
@@ -21,8 +21,8 @@ ghost use Rattle.wf_types.specs.Typing.{IsMistyped, IsElaborated};
 use crate::bodies::{MadeBodies, elaborate_bodies};
 use crate::declaring::declared;
 use std::alloc::Global;
-use wf_ast::{Typed, TypedNodes};
-use wf_named::{Named, NamedNodes};
+use wf_ast::{Sequence, Typed, TypedNodes};
+use wf_named::{NameAndOrders, Named, NamedNodes};
 use wf_text::faults::{NoMemory, PhaseFault};
 use wf_typed_stmts::BodyBuilding;
 use wf_types_decls::{Judged, judge_package};
@@ -30,27 +30,35 @@ use wf_types_decls::{Judged, judge_package};
 // How many numbers there are for statuses, for structs and for methods.
 const NUMBERS: usize = 4294967296;
 
-// The package with these bodies.
-fn with_bodies(nodes: TypedNodes, made: MadeBodies) -> TypedNodes
-    ensures { result ≡ record nodes { bodies = made.bodies; first_locals = made.first_locals } }
+// The package with these bodies, and with the name and the orders of the resolved one, which is given up.
+fn with_bodies(nodes: TypedNodes, made: MadeBodies, named: NamedNodes) -> TypedNodes
+    ensures { result ≡ finished named nodes made.bodies made.first_locals }
 {
+    let NameAndOrders {
+        package_name,
+        order,
+        struct_order,
+    } = named.into_name_and_orders();
     let mut whole = nodes;
+    whole.package = Sequence::from_vec(package_name);
     whole.bodies = made.bodies;
     whole.first_locals = made.first_locals;
+    whole.order = Sequence::from_vec(order);
+    whole.struct_order = Sequence::from_vec(struct_order);
     whole
 }
 
 // The nodes of a package that was judged, whose bodies and locals break no rule.
-fn whole_nodes(alloc: Global, named: &NamedNodes, judged: Judged) -> Result<TypedNodes, NoMemory>
-    requires judged { IsJudged (named_package named.now) judged }
-    requires right { AreRightBodies (named_package named.now) }
-    requires paths { AreRightLocals (named_package named.now) }
-    ensures whole { IfOk result (IsWhole named.now) }
+fn whole_nodes(alloc: Global, named: NamedNodes, judged: Judged) -> Result<TypedNodes, NoMemory>
+    requires judged { IsJudged (named_package named) judged }
+    requires right { AreRightBodies (named_package named) }
+    requires paths { AreRightLocals (named_package named) }
+    ensures whole { IfOk result (IsWhole named) }
 {
-    let nodes = declared(alloc, named, &judged)?;
+    let nodes = declared(alloc, &named, &judged)?;
     let mut building = BodyBuilding::new(alloc, nodes);
-    let made = elaborate_bodies(alloc, &mut building, named, judged)?;
-    Ok(with_bodies(building.finish(), made))
+    let made = elaborate_bodies(alloc, &mut building, &named, judged)?;
+    Ok(with_bodies(building.finish(), made, named))
 }
 
 // Whether each status, each struct and each method has a number.
@@ -63,15 +71,15 @@ fn has_numbers(nodes: &TypedNodes) -> bool
 }
 
 // The typed package of one that was judged, and breaks no rule.
-fn typed(alloc: Global, named: &NamedNodes, judged: Judged) -> Result<Typed, NoMemory>
-    requires judged { IsJudged (named_package named.now) judged }
-    requires kept { deciding (named_package named.now) ≡ None }
-    requires names { well_named (named_package named.now) ≡ true }
-    requires grammar { package_by_grammar (named_package named.now) ≡ true }
-    requires placed { stand_in_order (typed_package (named_package named.now)) ≡ true }
-    ensures tree { IfOk result (λ typed. package_of typed ≡ typed_package (named_package named.now)) }
-    ensures declared { IfOk result (λ typed. without_bodies typed ≡ declared_nodes named.now) }
-    ensures entries { IfOk result (λ typed. known.entries typed ≡ package_entries (named_package named.now)) }
+fn typed(alloc: Global, named: NamedNodes, judged: Judged) -> Result<Typed, NoMemory>
+    requires judged { IsJudged (named_package named) judged }
+    requires kept { deciding (named_package named) ≡ None }
+    requires names { well_named (named_package named) ≡ true }
+    requires grammar { package_by_grammar (named_package named) ≡ true }
+    requires placed { stand_in_order (typed_package (named_package named)) ≡ true }
+    ensures tree { IfOk result (λ typed. package_of typed ≡ typed_package (named_package named)) }
+    ensures declared { IfOk result (λ typed. without_bodies typed ≡ declared_nodes named) }
+    ensures entries { IfOk result (λ typed. known.entries typed ≡ package_entries (named_package named)) }
     ensures kept { IfOk result (λ typed. IsTyped typed) }
 {
     let nodes = whole_nodes(alloc, named, judged)?;
@@ -92,8 +100,8 @@ pub fn type_check(alloc: Global, named: Named) -> Result<Typed, PhaseFault>
     ensures typed { IfOk result (IsElaborated named) }
     ensures kept { IfOk result (λ typed. IsTyped typed) }
 {
-    let nodes = named.nodes();
-    let judged = judge_package(alloc, nodes)?;
+    let nodes = named.into_nodes();
+    let judged = judge_package(alloc, &nodes)?;
     match judged.refusal {
         None => Ok(typed(alloc, nodes, judged)?),
         Some(refusal) => Err(PhaseFault::Refused(refusal)),

@@ -12,11 +12,11 @@ use Rattle.wf_types.proofs.typing.type_check.Goals as goal
 pub typed-requires-clause-placed : goal.typed-requires-clause-placed
 typed-requires-clause-placed c =
     let P : NamedParts → Type 0 = λ n. stand_in_order (typed_package (named_package n)) ≡ true in
-    subst P (sym c.nodes-nodes.ensures.same) (packages_keep_order (named_package c.args.named) c.nodes-nodes.ensures.rules.rises)
+    subst P (sym c.into_nodes-nodes.ensures.same) (packages_keep_order (named_package c.args.named) c.into_nodes-nodes.ensures.rules.rises)
 
 pub returns-in-None-clause-typed : goal.returns-in-None-clause-typed
 returns-in-None-clause-typed c =
-    let same = c.nodes-nodes.ensures.same in
+    let same = c.into_nodes-nodes.ensures.same in
     let made = c.in_ok-typed-in-None.ensures in
     let Kept : NamedParts → Type 0 = λ n. Decides (Breaks (named_package n)) None in
     record {
