@@ -105,7 +105,7 @@ impl<'u> Front<'u> {
 
     /// The function of this name.
     #[tactic(auto, using(crate::proofs::FrontLemmas::function_listed, crate::proofs::FrontLemmas::in_functions))]
-    pub fn function(&self, name: CNameId) -> Option<Head<'u>>
+    pub(crate) fn function(&self, name: CNameId) -> Option<Head<'u>>
         requires { HasName self.now.nodes name }
         ensures { Finds (IsHead self.now.nodes) result (function_named (functions_of (front_items self.now)) (bytes_at self.now.nodes.names name.0)) }
     {

@@ -87,7 +87,7 @@ impl<'c, 'k, 'u> Frame<'c, 'k, 'u> {
     }
 
     /// The type of the cell that an lvalue stands for; None where it stands for none that is assigned.
-    pub fn cell_type(&self, target: CExprId) -> Result<Option<CType>, NoMemory>
+    pub(crate) fn cell_type(&self, target: CExprId) -> Result<Option<CType>, NoMemory>
         requires { target.0 < length self.now.within.front.nodes.exprs }
         ensures { IfOk result (λ cell. TellsCell self.now.within.front.nodes cell (expr_held (scope_in self.now.within) (expr_of self.now.within.front.nodes target.0))) }
     {

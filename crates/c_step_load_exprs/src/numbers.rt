@@ -69,7 +69,7 @@ impl<'u> Numbers<'u> {
     }
 
     /// The number of a string among those of the text.
-    pub fn text(&self, name: CNameId) -> Option<usize>
+    pub(crate) fn text(&self, name: CNameId) -> Option<usize>
         requires { HasName self.now name }
         ensures { result ≡ position (λ it. bytes_eq it.name (bytes_at self.now.names name.0)) (texts_of (unit_tree self.now)) }
     {

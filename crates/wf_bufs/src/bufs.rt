@@ -103,7 +103,7 @@ impl BufList {
     }
 
     /// Buffers in the same states.
-    pub fn copy(&self, alloc: Global) -> Result<BufList, NoMemory>
+    pub(crate) fn copy(&self, alloc: Global) -> Result<BufList, NoMemory>
         ensures { IfOk result (λ list. list ≡ self.now) }
     {
         let mut list = BufList::new(alloc);

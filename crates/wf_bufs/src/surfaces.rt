@@ -108,7 +108,7 @@ impl Model for PublicSurface {
 impl PublicSurface {
     /// What the public method with this number of the receiver's struct answers; None exactly where the struct
     /// has no such method.
-    pub fn answers(&self, receiver: ReceiverDecl, method: MethodId) -> Option<AnswerKind>
+    pub(crate) fn answers(&self, receiver: ReceiverDecl, method: MethodId) -> Option<AnswerKind>
         ensures { option_map answer_kind_of result ≡ option_map (λ it. it.answers) (method_of self.now method.0 (receiver_of receiver)) }
     {
         self.structure(receiver.of)?.answers(method)
