@@ -13,6 +13,6 @@ pub mod words;
 
 pub use headers::behind_lines;
 pub use kinds::Kind;
-pub use lexing::{Piece, first_piece};
+pub use lexing::first_piece;
 pub use operators::repeats;
 pub use runs::gap_len;

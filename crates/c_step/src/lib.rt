@@ -11,5 +11,4 @@ pub mod zero_loader;
 
 pub use c_machine::CMachine;
 pub use loader::Loader;
-pub use machine::Machine;
 pub use zero_loader::ZeroLoader;

@@ -12,4 +12,3 @@ pub mod moments;
 pub use asking::{at_break, at_exit, enter, way_back};
 pub use lists::{add, after_facts, head_facts};
 pub use loops::{head_of, is_word_true, place_of};
-pub use moments::Moment;

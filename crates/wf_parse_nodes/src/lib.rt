@@ -17,4 +17,3 @@ pub mod types;
 pub mod values;
 
 pub use maker::Maker;
-pub use values::SemanticValue;

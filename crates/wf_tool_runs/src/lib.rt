@@ -9,6 +9,5 @@ pub mod texts;
 mod units;
 
 pub use lowered::run_lowered;
-pub use prepared::Prepared;
 pub use source::run_source;
 pub use texts::{RunFault, TextFault, run_text};
