@@ -11,7 +11,7 @@ ghost use Rattle.c_form_exprs.specs.Front.{Finds, Tells, IsField, IsHead, IsNext
 
 use crate::callable::in_expressions;
 use crate::tables::NameTable;
-use c_text::{CField, CItem, CItemId, CLocal, CNameId, CParam, CStmtId, CType, Linkage, Unit};
+use c_text::{CField, CItem, CItemId, CNameId, CParam, CType, Unit};
 use std::alloc::Global;
 use std::marker::Model;
 use wf_text::NoMemory;

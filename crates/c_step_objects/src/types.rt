@@ -8,7 +8,7 @@ ghost use Rattle.c_step_objects.specs.Shapes.{number_in};
 ghost use Rattle.c_step_objects.specs.Types.{type_name as name_of_type, numbered_type, IsTypes};
 
 use crate::names::StructNumbers;
-use crate::shapes::{Shape, Shapes, shapes_of};
+use crate::shapes::{Shape, shapes_of};
 use c_form::type_name;
 use c_text::Unit;
 use indexmap::IndexMap;

@@ -17,7 +17,7 @@ use crate::nodes::{member, member_of_self, spelt_variable};
 use c_text::{CExprId, CNameId, Unit};
 use std::alloc::Global;
 use std::marker::Model;
-use wf_ast::{Method, Typed, Var};
+use wf_ast::{Typed, Var};
 use wf_text::NoMemory;
 
 /// The names of a method's body.

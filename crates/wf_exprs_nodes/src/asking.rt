@@ -12,7 +12,7 @@ ghost use Rattle.wf_exprs_nodes.specs.Trees.{HasOperands, higher_bytes, place_be
 
 use crate::chains::operation;
 use c_text::{CExprId, CList, COp, Unit};
-use wf_ast::{ArgId, Expr, ExprId, Op, Ty, Typed};
+use wf_ast::Op;
 use wf_base::{PeekForm, Width};
 use wf_exprs::nodes::{cast, element, number, two};
 use wf_exprs::rated::saturated;

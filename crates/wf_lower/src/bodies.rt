@@ -18,9 +18,7 @@ ghost use Rattle.wf_lower.specs.Methods.{IsBodyOf, local_names, names_in, param_
 
 use crate::declaring::{params_of, result_of};
 use crate::locals::{add_further, fixed_locals};
-use c_text::{
-    CExpr, CExprId, CItem, CList, CLocal, CNameId, CParam, CStmt, CStmtId, CType, Linkage, Unit,
-};
+use c_text::{CExpr, CItem, CList, CLocal, CNameId, CParam, CStmt, CStmtId, CType, Linkage, Unit};
 use wf_ast::Block;
 use wf_exprs::nodes::{number, put, variable};
 use wf_exprs_nodes::helpers::put_stmt;

@@ -11,7 +11,7 @@ ghost use Rattle.wf_mean_exprs.specs.MachineState.{seen_from};
 ghost use Rattle.wf_mean_exprs.specs.Questions.{question_of};
 
 use crate::reading::Scene;
-use wf_ast::{ArgId, Expr, ExprId, Ty, Typed, io_arg};
+use wf_ast::{ExprId, io_arg};
 use wf_base::PeekForm;
 use wf_bufs::Buf;
 

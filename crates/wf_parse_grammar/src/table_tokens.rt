@@ -5,7 +5,6 @@ ghost use Rattle.wf_parse_grammar.specs.Building.{name_build, text_build, dot_bu
 
 use crate::builds::Build;
 use crate::symbols::Action;
-use crate::symbols::Want::Make;
 use crate::tokens::{Kind, Token};
 use crate::wants::{Lead, Wants};
 use wf_ast::parsed::Name;

@@ -10,7 +10,7 @@ ghost use Rattle.wf_script_rules.specs.declared.rules.Thing.TheVariants as thing
 ghost use Rattle.wf_script_rules.specs.Report.{named_text, declares_text, shows_text, io_texts, method_name, at_buffer, at_array, buffer_text, array_text};
 ghost use Rattle.wf_script_drive.specs.Sights.{sight_of};
 
-use crate::printing::{answer, io_arg, number, show_array, show_buffer};
+use crate::printing::{io_arg, number, show_array, show_buffer};
 use pens::Pen;
 use wf_bufs::{Arg, Bufs, MethodDecl, PublicSurface, ReceiverDecl, StructDecl};
 use wf_script::Declared;

@@ -22,7 +22,7 @@ use crate::forms::{node_of, path_node, plain_width, type_meant, unsigned, value_
 use crate::operands::MadeOperands;
 use crate::typed_exprs::TypedExpr;
 use wf_ast::parsed::Link;
-use wf_ast::{Expr, ExprId, ExprNode, Op, Ty};
+use wf_ast::{Expr, ExprId, Op, Ty};
 use wf_named::{NamedCall, NamedCallee, NamedExpr, NamedPath, NamedType};
 use wf_text::Place;
 use wf_text::faults::NoMemory;

@@ -21,7 +21,7 @@ use crate::lists::{one, two};
 use std::alloc::Global;
 use std::marker::Model;
 use wf_ast::{Expr, ExprId, ExprNode, Op, Sequence, StmtId, StmtNode, Ty, TypedNodes};
-use wf_named::{NamedNodes, NamedPath};
+use wf_named::NamedPath;
 use wf_text::faults::NoMemory;
 use wf_text::{Place, add_last};
 use wf_typed_exprs::typed_exprs::TypedExpr;

@@ -22,7 +22,7 @@ use Rattle.wf_ast.specs.WellTyped as well
 use Rattle.wf_named.specs.declared.nodes.NamedCallee.{NamedCallee}
 use Rattle.wf_named.specs.declared.nodes.NamedCallee.TheVariants as callees
 use Rattle.wf_named.specs.declared.nodes.NamedPath.{NamedPath}
-use Rattle.wf_named.specs.NamedTree.{answer, NamedArgTrees, NamedCallTree, call, NamedTargetTree, to_path, NamedMethodTree, NamedPackageTree}
+use Rattle.wf_named.specs.NamedTree.{NamedArgTrees, NamedCallTree, call, NamedTargetTree, to_path, NamedMethodTree, NamedPackageTree}
 use Rattle.wf_named.specs.NamedTree as named
 use Rattle.wf_named.specs.WellNamed.{count_args, is_wanted, args_wanted, kind_of, has_kind, type_of_variable, named_args, named_call, named_target}
 use Rattle.wf_named.specs.Grammar.{args_by_grammar, call_by_grammar, target_by_grammar}

@@ -3,7 +3,7 @@ use Rattle.std.specs.Prelude.{option_map}
 use Rattle.wf_bufs.specs.HostSeen.{host_of}
 use Rattle.wf_bufs.specs.HostViews.{arg_of}
 use Rattle.wf_text.specs.Surface as kind
-use Rattle.turns.specs.Run.{Got, More, Lost}
+use Rattle.turns.specs.Run.{More, Lost}
 use Rattle.c_meaning.specs.declared.values.CValue.{CValue}
 use Rattle.c_meaning.specs.CMemory.{Memory}
 use Rattle.c_meaning.specs.CRun.{all_values, answer_of, function_name}

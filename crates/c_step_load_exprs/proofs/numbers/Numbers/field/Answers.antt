@@ -1,4 +1,4 @@
-use Rattle.std.proofs.Common.{◌<◌, length, Some, None, refl, ◌∙◌, arith}
+use Rattle.std.proofs.Common.{◌<◌, length, Some, None, refl, arith}
 use Rattle.std.proofs.lemmas.Option.{slice_get_read}
 use Rattle.c_text.specs.CNodes.{bytes_at, unit_tree}
 use Rattle.c_meaning.specs.CTypes.{structs_of, struct_named}
