@@ -1,9 +1,6 @@
 -- Reading on: what a loop over the tokens of a file keeps. For the crates that read lists of tokens.
 use Rattle.std.proofs.Common.{◌≡◌, ℕ, ◌⊎◌, inl, inr, List, [], ◌∷◌, ◌++◌, refl, sym, ◌∙◌, ap, subst}
 use Rattle.wf_text.specs.declared.place.Place.{Place}
-use Rattle.wf_tokens.specs.declared.kinds.TokenKind.TheVariants as kind
-use Rattle.wf_tokens.specs.declared.symbols.Symbol.{Symbol}
-use Rattle.wf_tokens.specs.declared.symbols.Symbol.TheVariants as symbol
 use Rattle.wf_tokens.specs.Places.{behind_byte, behind_bytes}
 use Rattle.wf_tokens.specs.Spelling.{State, Item, Reads, ReadsPiece, MakesSemicolon, ReadsAll}
 
@@ -27,6 +24,3 @@ same_end old item new r = by_case r.1
 pub same_end-all : (old : State) (items : List Item) (new : State) → ReadsAll old items new → behind_bytes new.at new.rest ≡ behind_bytes old.at old.rest
 same_end-all old [] new r = ap (λ (s : State). behind_bytes s.at s.rest) (sym r)
 same_end-all old (item ∷ items) new r = same_end-all r.0 items new r.2 ∙ same_end old item r.0 r.1
-
-pub text_or_symbol : (s : Symbol) → kind.Text ≡ kind.Symbol s → ⊥
-text_or_symbol s h = cc
