@@ -1,4 +1,5 @@
-// What is known of a package and at a place in it, in tables: each name is looked up once.
+// What is known of a package and at a place in it, in tables. What a name stands for is found by a few look-ups, each time
+// that it is asked.
 
 ghost use Rattle.std.specs.Prelude.{◌≡◌, slice_get, nat_eq, option_map};
 ghost use Rattle.indexmap.specs.IndexMap.{get};
