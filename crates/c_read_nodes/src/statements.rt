@@ -8,10 +8,10 @@ use c_text::{CCall, CExprId, CNameId, CNumber, CStmt, CStmtId, Otherwise};
 /// An `if`, with what `otherwise` says after it.
 #[derive(Clone, Copy, PartialEq, Eq)]
 pub struct Branch {
-    pub test: CExprId,
-    pub body: CStmtId,
-    pub otherwise: Otherwise,
-    pub other: CStmtId,
+    pub(crate) test: CExprId,
+    pub(crate) body: CStmtId,
+    pub(crate) otherwise: Otherwise,
+    pub(crate) other: CStmtId,
 }
 
 /// A statement, without what follows it in its block.

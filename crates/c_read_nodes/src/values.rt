@@ -10,23 +10,23 @@ use c_text::{
 /// An operation that may have more operands.
 #[derive(Drop)]
 pub struct OpenOperation {
-    pub first: CExprId,
-    pub second: CExprId,
-    pub others: CList<CExprId>,
+    pub(crate) first: CExprId,
+    pub(crate) second: CExprId,
+    pub(crate) others: CList<CExprId>,
 }
 
 /// A test and the block after it.
 #[derive(Clone, Copy, PartialEq, Eq)]
 pub struct Arm {
-    pub test: CExprId,
-    pub body: CStmtId,
+    pub(crate) test: CExprId,
+    pub(crate) body: CStmtId,
 }
 
 /// What a function results in; no type for `void`.
 #[derive(Clone, Copy, PartialEq, Eq)]
 pub struct Outcome {
-    pub linkage: Linkage,
-    pub of: Option<CType>,
+    pub(crate) linkage: Linkage,
+    pub(crate) of: Option<CType>,
 }
 
 /// What a part of the grammar means, or what of it is read so far. Lists are in the order of the text.

@@ -22,7 +22,7 @@ fn push_list(list: &[Want], stack: &mut Stack<Want>) -> Result<(), NoMemory>
 
 /// What is wanted after a list of the table: what tells what the token says, if anything, and two more lists.
 #[derive(Drop)]
-pub struct After {
+pub(crate) struct After {
     told: Option<Want>,
     then: &'static [Want],
     last: &'static [Want],

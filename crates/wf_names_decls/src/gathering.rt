@@ -15,12 +15,12 @@ use wf_text::faults::NoMemory;
 
 /// The names of the statuses, the constants, the structs and the methods that a package declares, each list in order.
 pub struct NameLists {
-    pub statuses: Vec<Name>,
-    pub constants: Vec<Name>,
+    pub(crate) statuses: Vec<Name>,
+    pub(crate) constants: Vec<Name>,
     pub structs: Vec<Name>,
     pub methods: Vec<Name>,
     /// Of each method the name of the struct that it is declared for.
-    pub owners: Vec<Name>,
+    pub(crate) owners: Vec<Name>,
 }
 
 impl Drop for NameLists {

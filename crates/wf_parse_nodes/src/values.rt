@@ -11,17 +11,17 @@ use wf_text::Place;
 /// The sign of an assignment: `=`, or an operator before it.
 #[derive(Clone, Copy)]
 pub struct Sign {
-    pub op: Option<Op>,
-    pub at: Place,
+    pub(crate) op: Option<Op>,
+    pub(crate) at: Place,
 }
 
 /// A chain that may go on. `at` is the place of its first operator.
 #[derive(Drop)]
 pub struct OpenChain {
-    pub op: Op,
-    pub first: ExprId,
-    pub links: Sequence<Link>,
-    pub at: Place,
+    pub(crate) op: Op,
+    pub(crate) first: ExprId,
+    pub(crate) links: Sequence<Link>,
+    pub(crate) at: Place,
 }
 
 /// What a type that begins with `base` names. `at` is the place of `base`.
