@@ -10,7 +10,7 @@ mod given;
 pub mod laws;
 mod matching;
 
-pub use asked::{AxiomFault, Premises};
+pub use asked::Premises;
 pub use asking::premises;
-pub use axioms::{Axiom, Letter, Term};
+pub use axioms::Axiom;
 pub use finding::axiom;

@@ -19,5 +19,4 @@ mod sets;
 
 pub use adding::Full;
 pub use changes::Change;
-pub use forms::Form;
 pub use list::Facts;
