@@ -5,6 +5,7 @@ use Rattle.wf_ast.specs.declared.types.Ty.{Ty}
 use Rattle.wf_ast.specs.declared.types.Ty.TheVariants as types
 use Rattle.wf_ast.specs.TypedTree.{local, NumTree, number, read, convert, Awaited, take_number, skip, write, Simple, await, Block, end, plain, choose, loop}
 use Rattle.wf_ast.specs.TypedPackage.{Variable, MethodTree, PackageTree}
+use Rattle.wf_points.specs.PointNumbers.{is_slice}
 use Rattle.c_text.specs.declared.kinds.CNumber.TheVariants.{Int}
 use Rattle.c_text.specs.declared.kinds.Otherwise.TheVariants.{Nothing}
 use Rattle.c_text.specs.CTree.{ExprTree, variable, member, choice, Code, finish, empty, assign, branch, leave, case_label}
@@ -85,8 +86,7 @@ put_all f rest = put f.names (λ n. true) 0 f.method.args rest
 
 -- What a coroutine keeps in its struct while it is suspended: its locals but slices, and what a started statement has.
 abbrev pub is_kept : Ty → Bool
-is_kept (types.Slice width) = false
-is_kept ty = true
+is_kept ty = not (is_slice ty)
 
 abbrev pub local_code : Variable → ExprTree
 local_code x = variable (codes "v_" ++ x.name)
