@@ -1,5 +1,6 @@
 // Tests of the phases of a package and of the top call, through their public calls: what the built program doesn't show.
-// The typed tree of a small package, what is known before its statements, and inputs and sinks that fail where they are told to. Nothing stands on this crate.
+// The typed tree of a small package, what is known before its statements, inputs and sinks that fail where they are told
+// to, and the cells that a C machine tells of a text. Nothing stands on this crate.
 #![tactic(auto)]
 
 #[cfg(test)]

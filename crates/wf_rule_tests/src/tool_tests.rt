@@ -1,7 +1,12 @@
-// The top call over inputs and sinks in memory that fail where they are told to, and the exit statuses.
+// The top call over inputs and sinks in memory that fail where they are told to, the exit statuses, and the cells that a C
+// machine tells of its text.
 
-use c_step::ZeroLoader;
+ghost use Rattle.std.specs.Prelude.{◌≡◌, [], ◌∷◌, IfOk};
+
+use c_read::read;
+use c_step::{CMachine, Loader, ZeroLoader};
 use std::alloc::{AllocError, Global};
+use wf_bufs::PublicSurface;
 use wf_outside::{MemInputs, MemSink, PureInputs, PureSink};
 use wf_text::NoMemory;
 use wf_tool::{Ending, wuffs_tool};
@@ -160,10 +165,84 @@ fn are_counted(endings: &[Ending]) -> bool {
     true
 }
 
+// What a text begins with: the three lines, and the type of a buffer.
+const FRONT: &[u8] =
+    b"#include <stddef.h>\n#include <stdint.h>\n#include <string.h>\ntypedef struct { uint8_t* ptr; size_t len; size_t wi; size_t ri; uint64_t pos; _Bool closed; } wuffs_base__io_buffer;";
+
+/// Functions of a text, and the parameters and locals of the greatest chain of calls that a host begins.
+type Chain = (&'static [u8], u64);
+
+const CHAINS: &[Chain] = &[
+    (b"", 0),
+    // `f` has three, and `g`, which it calls, two.
+    (
+        b"static uint8_t g(uint8_t a) { uint8_t b; b = a; return b; } uint8_t f(uint8_t x, uint8_t y) { uint8_t z; z = g(x); return z; }",
+        5,
+    ),
+    // `f` has one; `h` has three, but nothing calls it.
+    (
+        b"static void h(uint8_t a, uint8_t b, uint8_t c) { } void f(uint8_t x) { }",
+        1,
+    ),
+    // The same, where `f` calls `h`.
+    (
+        b"static void h(uint8_t a, uint8_t b, uint8_t c) { } void f(uint8_t x) { h(x, x, x); }",
+        4,
+    ),
+    // `f` has two, and `i` two, which an expression of `f` calls.
+    (
+        b"static inline uint8_t i(uint8_t a, uint8_t b) { return (a + b); } uint8_t f(uint8_t x) { uint8_t z; z = (i(x, x)); return z; }",
+        4,
+    ),
+];
+
+// The surface of a package with nothing public, whose one status is ok.
+fn nothing_public(alloc: Global) -> Result<PublicSurface, NoMemory>
+    ensures { IfOk result (λ it. it ≡ record { package_name = []; statuses = [] ∷ []; structs = [] }) }
+{
+    let statuses = vec![in alloc; Vec::new(alloc)]?;
+    Ok(PublicSurface {
+        package_name: Vec::new(alloc),
+        statuses,
+        structs: Vec::new(alloc),
+    })
+}
+
+// A text of these functions.
+fn text(alloc: Global, functions: &[u8]) -> Result<Vec<u8>, NoMemory> {
+    let mut bytes = Vec::from_slice(alloc, FRONT)?;
+    bytes.extend_from_slice(functions)?;
+    Ok(bytes)
+}
+
+// Whether a machine tells so many cells of a text of these functions.
+fn has_cells(alloc: Global, chain: &Chain) -> Result<bool, NoMemory> {
+    let surface = nothing_public(alloc)?;
+    let bytes = text(alloc, chain.0)?;
+    let Ok(unit) = read(alloc, bytes.as_slice()) else {
+        return Ok(false);
+    };
+    let mut loader = CMachine;
+    match loader.load(alloc, unit, &surface, &[]) {
+        Ok(machine) => Ok(machine.frame_cells() == chain.1),
+        Err(_) => Ok(false),
+    }
+}
+
+fn all_have_cells(alloc: Global, chains: &[Chain]) -> Result<bool, NoMemory> {
+    for chain in chains {
+        if !has_cells(alloc, chain)? {
+            return Ok(false);
+        }
+    }
+    Ok(true)
+}
+
 #[test]
-fn faults_and_endings(rt: HostRuntime) {
+fn faults_endings_and_cells(rt: HostRuntime) {
     assert!(rt; all_end(rt.alloc(), ROWS) == Ok(true));
     assert!(rt; keeps_to_the_room(rt.alloc()) == Ok(true));
+    assert!(rt; all_have_cells(rt.alloc(), CHAINS) == Ok(true));
     assert!(rt;
         are_counted(&[
             Ending::Done,
