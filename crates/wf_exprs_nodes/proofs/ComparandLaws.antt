@@ -137,19 +137,19 @@ module _ (names : Names) where
   right_complement at signs ty (ordering op) a b bits one other h w i k c = absurd (cc h)
   right_complement at signs ty (joining both) a b bits one other h w i k c = absurd (cc h)
 
-  pub xor_compared : (at : Place) (signs : List Place) (ty : Ty) (sort : OperatorKind) (a b : ValueTree) (bits : ℕ) → is_arithmetic sort ≡ true → bits ≡ (num_type ty).bits
-      → complement_by sort (is_ones bits (num_in a)) (is_ones bits (num_in b)) ≡ None → is_xor sort ≡ true → of_xor bits (num_in a) (num_in b) ≡ compared_as names (num_in (chain_of at signs ty sort (a ∷ b ∷ [])))
-  xor_compared at signs ty (arithmetic op) a b bits h w c x =
+  pub xor_compared : (at : Place) (signs : List Place) (ty : Ty) (sort : OperatorKind) (a b : ValueTree) (bits : ℕ) (one other : Bool) → is_arithmetic sort ≡ true → bits ≡ (num_type ty).bits
+      → one ≡ is_ones bits (num_in a) → other ≡ is_ones bits (num_in b) → complement_by sort one other ≡ None → is_xor sort ≡ true → of_xor bits (num_in a) (num_in b) ≡ compared_as names (num_in (chain_of at signs ty sort (a ∷ b ∷ [])))
+  xor_compared at signs ty (arithmetic op) a b bits one other h w i k c x =
       let own = (num_type ty).bits in
-      ap (λ x. of_xor x (num_in a) (num_in b)) w ∙ sym (other_xor op own (num_in a) (num_in b) (told (arithmetic op) bits own (num_in a) (num_in b) _ _ None w refl refl c) x) ∙ pair_is at signs ty op a b
-  xor_compared at signs ty (ordering op) a b bits h w c x = absurd (cc h)
-  xor_compared at signs ty (joining both) a b bits h w c x = absurd (cc h)
+      ap (λ x. of_xor x (num_in a) (num_in b)) w ∙ sym (other_xor op own (num_in a) (num_in b) (told (arithmetic op) bits own (num_in a) (num_in b) one other None w i k c) x) ∙ pair_is at signs ty op a b
+  xor_compared at signs ty (ordering op) a b bits one other h w i k c x = absurd (cc h)
+  xor_compared at signs ty (joining both) a b bits one other h w i k c x = absurd (cc h)
 
-  pub pair_as_is : (at : Place) (signs : List Place) (ty : Ty) (sort : OperatorKind) (a b : ValueTree) (bits : ℕ) → is_arithmetic sort ≡ true → bits ≡ (num_type ty).bits
-      → complement_by sort (is_ones bits (num_in a)) (is_ones bits (num_in b)) ≡ None → is_xor sort ≡ false
+  pub pair_as_is : (at : Place) (signs : List Place) (ty : Ty) (sort : OperatorKind) (a b : ValueTree) (bits : ℕ) (one other : Bool) → is_arithmetic sort ≡ true → bits ≡ (num_type ty).bits
+      → one ≡ is_ones bits (num_in a) → other ≡ is_ones bits (num_in b) → complement_by sort one other ≡ None → is_xor sort ≡ false
       → lowered names (num_in (chain_of at signs ty sort (a ∷ b ∷ []))) ≡ compared_as names (num_in (chain_of at signs ty sort (a ∷ b ∷ [])))
-  pair_as_is at signs ty (arithmetic op) a b bits h w c x =
+  pair_as_is at signs ty (arithmetic op) a b bits one other h w i k c x =
       let own = (num_type ty).bits in
-      pair_is_link at signs ty op a b ∙ sym (no_xor op own (num_in a) (num_in b) (told (arithmetic op) bits own (num_in a) (num_in b) _ _ None w refl refl c) x) ∙ pair_is at signs ty op a b
-  pair_as_is at signs ty (ordering op) a b bits h w c x = absurd (cc h)
-  pair_as_is at signs ty (joining both) a b bits h w c x = absurd (cc h)
+      pair_is_link at signs ty op a b ∙ sym (no_xor op own (num_in a) (num_in b) (told (arithmetic op) bits own (num_in a) (num_in b) one other None w i k c) x) ∙ pair_is at signs ty op a b
+  pair_as_is at signs ty (ordering op) a b bits one other h w i k c x = absurd (cc h)
+  pair_as_is at signs ty (joining both) a b bits one other h w i k c x = absurd (cc h)

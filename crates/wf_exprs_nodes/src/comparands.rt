@@ -1,9 +1,9 @@
 // Numbers that are compared. A complement of 8 or 16 bits is the difference to all ones there.
 
-ghost use Rattle.std.specs.Prelude.{◌≡◌, ◌<◌, ◌∷◌, ◌-◌, ◌^◌, [], None, nat_eq, nat_le, length, map, IsTrue, IfOk};
+ghost use Rattle.std.specs.Prelude.{◌≡◌, ◌<◌, ◌∷◌, ◌-◌, ◌^◌, [], nat_eq, nat_le, length, map, IsTrue, IfOk};
 ghost use Rattle.std.specs.List.{list_all};
 ghost use Rattle.wf_base.specs.BaseTable.{bits_of};
-ghost use Rattle.wf_ast.specs.TypedTrees.{chain_of, num_type, operator_kind, place_of_node, signs_of_node, tree_of, type_of_node};
+ghost use Rattle.wf_ast.specs.TypedTrees.{chain_of, operator_kind, place_of_node, signs_of_node, tree_of, type_of_node};
 ghost use Rattle.wf_ast.specs.TypedTree.{bits_xor, minus};
 ghost use Rattle.wf_ast.specs.NodeKinds.{is_number_at, node_number};
 ghost use Rattle.wf_ast.specs.OperatorForms.{is_arithmetic};
@@ -98,7 +98,13 @@ fn pair(
     match complement(op, one, other) {
         Some(true) => difference(scope, u, width, b, a),
         Some(false) => difference(scope, u, width, a, b),
-        None => no_complement(scope, u, e, op, width, a, b),
+        None => {
+            if is_xor(op) {
+                xor(scope, u, width, a, b)
+            } else {
+                number(scope, u, e)
+            }
+        }
     }
 }
 
@@ -129,33 +135,6 @@ fn difference(
     let left = number(scope, u, ones)?;
     let right = number(scope, u, of)?;
     link(scope.alloc(), u, Op::Sub, width, left, right)
-}
-
-// Two operands that are no complement of their width.
-fn no_complement(
-    scope: &BodyNames,
-    u: &mut Unit,
-    e: ExprId,
-    op: Op,
-    width: Width,
-    a: ExprId,
-    b: ExprId,
-) -> Result<Rated, NoMemory>
-    requires node { IsTrue (is_number_at scope.now.nodes e) }
-    requires tree { tree_of scope.now.nodes e ≡ chain_of (place_of_node scope.now.nodes e.0) (signs_of_node scope.now.nodes e.0) (type_of_node scope.now.nodes e.0) (operator_kind op) (tree_of scope.now.nodes a ∷ tree_of scope.now.nodes b ∷ []) }
-    requires width { bits_of width ≡ (num_type (type_of_node scope.now.nodes e.0)).bits }
-    requires none { complement_by (operator_kind op) (is_ones_tree (bits_of width) (node_number scope.now.nodes a)) (is_ones_tree (bits_of width) (node_number scope.now.nodes b)) ≡ None }
-    requires arithmetic { IsTrue (is_arithmetic (operator_kind op)) }
-    requires left { IsTrue (is_number_at scope.now.nodes a) }
-    requires right { IsTrue (is_number_at scope.now.nodes b) }
-    ensures grows { Grows u.old u.new }
-    ensures made { IfOk result (λ it. HasRated u.new it (compared_as_tree scope.now.names (node_number scope.now.nodes e))) }
-{
-    if is_xor(op) {
-        xor(scope, u, width, a, b)
-    } else {
-        number(scope, u, e)
-    }
 }
 
 fn is_xor(op: Op) -> bool
