@@ -1,4 +1,4 @@
-use Rattle.std.proofs.Common.{◌∙◌, refl}
+use Rattle.std.proofs.Common.{refl}
 use Rattle.wf_types.specs.DeclaredNodes.{declared_nodes}
 use Rattle.wf_types.proofs.declaring.nothing_declared.Goals as goal
 

@@ -14,8 +14,8 @@ typed-requires-clause-placed c =
     let P : NamedParts → Type 0 = λ n. stand_in_order (typed_package (named_package n)) ≡ true in
     subst P (sym c.into_nodes-nodes.ensures.same) (packages_keep_order (named_package c.args.named) c.into_nodes-nodes.ensures.rules.rises)
 
-pub returns-in-None-clause-typed : goal.returns-in-None-clause-typed
-returns-in-None-clause-typed c =
+pub returns-in_ok-typed-in-None-clause-typed : goal.returns-in_ok-typed-in-None-clause-typed
+returns-in_ok-typed-in-None-clause-typed c =
     let same = c.into_nodes-nodes.ensures.same in
     let made = c.in_ok-typed-in-None.ensures in
     let Kept : NamedParts → Type 0 = λ n. Decides (Breaks (named_package n)) None in
