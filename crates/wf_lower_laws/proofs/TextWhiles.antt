@@ -1,17 +1,16 @@
 -- The text of a package has as many `while` statements as the package has loops.
-use Rattle.std.proofs.Common.{◌≡◌, ℕ, suc, ◌+◌, Bool, true, false, List, [], ◌∷◌, ◌++◌, Option, Some, None, refl, ap, ◌∙◌, arith}
-use Rattle.std.specs.Prelude.{if◌then◌else◌, slice_get, sum_by}
+use Rattle.std.proofs.Common.{◌≡◌, ℕ, suc, Bool, true, false, List, [], ◌∷◌, ◌++◌, Option, Some, None, refl, ◌∙◌, arith}
+use Rattle.std.specs.Prelude.{if◌then◌else◌, slice_get}
 use Rattle.std.specs.List.{AllByRecursion}
 use Rattle.std.proofs.lemmas.List.Sums.{sum_by-cons, sum_by-append}
 use Rattle.wf_ast.specs.TypedPackage.{MethodTree, PackageTree}
-use Rattle.wf_ast.specs.WellTyped.{well_typed}
 use Rattle.c_text.specs.CTree.{ItemTree, struct_item, text_item}
 use Rattle.wf_exprs.specs.Helpers.{all_saturating}
 use Rattle.wf_exprs.specs.Names.{struct_type, status_name}
 use Rattle.wf_lower_stmts.specs.Forms.{form_of}
 use Rattle.wf_lower.specs.Bodies.{functions_of, body_function, entry_function}
 use Rattle.wf_lower.specs.Unit.{io_buffer_item, struct_fields, struct_items, initialize_function, initialize_functions, method_functions, all_functions, is_used, used_texts, helper_name, used_helpers, lowered_unit}
-use Rattle.wf_lower_laws.specs.TurnLaw.{loops, item_whiles, text_whiles, package_loops, TextsLoopAlike}
+use Rattle.wf_lower_laws.specs.TurnLaw.{loops, item_whiles, text_whiles, TextsLoopAlike}
 use Rattle.wf_lower_laws.proofs.OrderSums.{of_some, along, in_any_order}
 use Rattle.wf_lower_laws.proofs.Orders.{methods_ordered}
 use Rattle.wf_lower_laws.proofs.Whiles.{loop_alike}
