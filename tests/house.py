@@ -6,6 +6,7 @@ tests/, examples/ or crates/; in a crate it may begin at specs/, src/ or proofs/
 of docs/PROOFS.md it is in that crate or in one that the section names. NAME in it stands for any name.
 And that no table of the sources is looked up by a hash of what an author writes: keys of hashed tables are numbers of 32 bits, which are given
 in order, so that names can't be chosen to collide; tables of names or of pairs are ordered.
+And that what is public is named by another crate.
 """
 import pathlib
 import re
@@ -128,10 +129,36 @@ def check_tables():
                     yield f"{source.relative_to(TOP)}:{number}: a table by a hash of {key}"
 
 
+# What is public: a function's head, or a type with all that is in it.
+PUBLIC = re.compile(r"^ *pub (?:const )?fn (\w+)[^{]*|^pub (?:struct|enum|trait|type|const) (\w+)(?:[^{;]*;|.*?^\})", re.MULTILINE | re.DOTALL)
+
+
+def check_visible():
+    """A module is public where something in it is, and what is public is named by another crate, by a word at least, or stands in what
+    is public in its own. Laws and worked examples are for whoever reads them, and nothing stands on a crate of tests."""
+    words = {crate: set() for crate in crates()}
+    for crate, found in words.items():
+        for source in (TOP / "crates" / crate).glob("**/*"):
+            if source.suffix in (".rt", ".antt") and "out" not in source.parts:
+                found.update(re.findall(r"\w+", source.read_text()))
+    for crate in words:
+        root, elsewhere = TOP / "crates" / crate / "src", set().union(*(found for other, found in words.items() if other != crate))
+        sources = {source.stem: source.read_text() for source in sorted(root.glob("*.rt"))}
+        for module in re.findall(r"^pub mod (\w+);", sources.get("lib", ""), re.MULTILINE):
+            if not re.search(r"^ *pub (?!\()", sources[module], re.MULTILINE):
+                yield f"crates/{crate}/src/lib.rt: nothing in {module} is public"
+        public = [(stem, it) for stem, text in sources.items() for it in PUBLIC.finditer(text)]
+        for stem, it in public:
+            name = it[1] or it[2]
+            is_law = crate.endswith(("_laws", "_tests")) or stem in ("laws", "examples") or re.search(r"\{\s*\}\s*$|^ *pub fn \w+\(\)\s*(?:ensures|requires)", it[0])
+            if name not in elsewhere and not is_law and not any(re.search(rf"\b{name}\b", other[0]) for _, other in public if other is not it):
+                yield f"crates/{crate}/src/{stem}.rt: no other crate names {name}"
+
+
 def main():
     if sys.argv[1:] != ["--check"]:
         sys.exit(__doc__)
-    wrong = [*check_crates(), *check_links(), *check_paths(), *check_tables()]
+    wrong = [*check_crates(), *check_links(), *check_paths(), *check_tables(), *check_visible()]
     for line in wrong:
         print(line)
     print(f"house: {len(crates())} crates, {len(DOCUMENTS)} documents, {len(wrong)} failed")

@@ -3,17 +3,17 @@
 // that this is what the action means as trees is the contract of `Maker::perform`.
 #![tactic(auto)]
 
-pub mod blocks;
-pub mod conditions;
+mod blocks;
+mod conditions;
 pub mod keeping;
-pub mod make_exprs;
-pub mod make_items;
-pub mod make_stmts;
-pub mod make_types;
+mod make_exprs;
+mod make_items;
+mod make_stmts;
+mod make_types;
 pub mod maker;
-pub mod making;
-pub mod pops;
-pub mod shapes;
+mod making;
+mod pops;
+mod shapes;
 pub mod statements;
 pub mod values;
 

@@ -5,11 +5,11 @@
 pub mod headers;
 pub mod kinds;
 pub mod lexing;
-pub mod numbers;
+mod numbers;
 pub mod operators;
 pub mod runs;
-pub mod symbols;
-pub mod words;
+mod symbols;
+mod words;
 
 pub use headers::behind_lines;
 pub use kinds::Kind;

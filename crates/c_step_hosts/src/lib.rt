@@ -6,5 +6,5 @@ pub mod givens;
 pub mod ios;
 pub mod leaving;
 pub mod lending;
-pub mod spares;
+mod spares;
 pub mod taking;

@@ -2,8 +2,8 @@
 #![tactic(auto)]
 
 pub mod asking;
-pub mod chains;
-pub mod comparands;
+mod chains;
+mod comparands;
 pub mod conditions;
 pub mod helpers;
 pub mod marks;

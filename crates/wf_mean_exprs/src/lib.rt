@@ -3,7 +3,7 @@
 #![tactic(auto)]
 
 mod arithmetic;
-pub mod asking;
+mod asking;
 pub mod conditions;
 pub mod evaluating;
 pub mod locals;

@@ -11,5 +11,5 @@ mod copying;
 pub mod entry;
 mod performing;
 pub mod stage;
-pub mod storing;
+mod storing;
 pub mod targets;

@@ -1,8 +1,8 @@
 // The resolved package of a parsed one: its declarations with their names and types, each where its own scope is known.
 #![tactic(auto)]
 
-pub mod adding;
+mod adding;
 pub mod declarations;
 pub mod laws;
 pub mod packages;
-pub mod variables;
+mod variables;

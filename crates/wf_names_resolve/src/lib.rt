@@ -2,11 +2,11 @@
 // tree is a function of the parsed one and of what its names stand for; the code makes its nodes.
 #![tactic(auto)]
 
-pub mod arguments;
+mod arguments;
 pub mod examples;
 pub mod parts;
 pub mod resolve_exprs;
 pub mod resolve_stmts;
-pub mod simple_stmts;
-pub mod stmt_parts;
+mod simple_stmts;
+mod stmt_parts;
 pub mod words;

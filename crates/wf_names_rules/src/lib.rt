@@ -2,13 +2,13 @@
 // definitions over the mathematical tree; each pass of this crate is exact against its part of them.
 #![tactic(auto)]
 
-pub mod arguments;
+mod arguments;
 pub mod callees;
 pub mod here;
-pub mod labels;
+mod labels;
 pub mod laws;
 pub mod lists;
-pub mod reserved;
+mod reserved;
 pub mod seen;
 pub mod sorts;
 pub mod tables;

@@ -2,11 +2,11 @@
 // declarations mean, and the walk over every use of a name by them, which makes the graph of the calls of its methods.
 #![tactic(auto)]
 
-pub mod declared_uses;
+mod declared_uses;
 pub mod laws;
-pub mod numbers;
+mod numbers;
 pub mod scopes;
 pub mod tables;
 pub mod uses;
-pub mod variables;
+mod variables;
 pub mod written;

@@ -1,9 +1,9 @@
 // The lengths of arrays and the sizes of structs, by the values of constant expressions.
 #![tactic(auto)]
 
-pub mod arrays;
+mod arrays;
 pub mod chains;
-pub mod constants;
+mod constants;
 pub mod environment;
 pub mod holding;
 pub mod large;
@@ -11,6 +11,6 @@ pub mod laws;
 pub mod numbers;
 pub mod parts;
 pub mod setting;
-pub mod struct_sizes;
+mod struct_sizes;
 pub mod tables;
-pub mod values;
+mod values;

@@ -4,10 +4,10 @@
 
 pub mod forms;
 pub mod laws;
-pub mod lexing;
+mod lexing;
 pub mod machine;
 pub mod parsing;
-pub mod recent;
-pub mod token_kinds;
+mod recent;
+mod token_kinds;
 
 pub use parsing::parse;

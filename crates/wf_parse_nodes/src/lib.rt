@@ -3,17 +3,17 @@
 // them; that this is what the action means as trees is the contract of `Maker::perform`.
 #![tactic(auto)]
 
-pub mod actions;
-pub mod branches;
-pub mod calls;
-pub mod declarations;
-pub mod expressions;
+mod actions;
+mod branches;
+mod calls;
+mod declarations;
+mod expressions;
 pub mod maker;
-pub mod paths;
-pub mod pops;
-pub mod shapes;
-pub mod statements;
-pub mod types;
+mod paths;
+mod pops;
+mod shapes;
+mod statements;
+mod types;
 pub mod values;
 
 pub use maker::Maker;

@@ -2,15 +2,15 @@
 // between bytes and lists of tokens in specs/Spelling.antt.
 #![tactic(auto)]
 
-pub mod gaps;
+mod gaps;
 pub mod kinds;
 pub mod laws;
 pub mod lexer;
-pub mod numbers;
+mod numbers;
 pub mod pieces;
-pub mod places;
-pub mod runs;
-pub mod semicolons;
+mod places;
+mod runs;
+mod semicolons;
 pub mod symbols;
 pub mod token;
 pub mod words;

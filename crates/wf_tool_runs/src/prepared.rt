@@ -19,7 +19,7 @@ use wf_surfaces::public_surface;
 use wf_text::NoMemory;
 
 /// A script, and the public surface that it was read over.
-pub struct Prepared {
+pub(crate) struct Prepared {
     pub surface: PublicSurface,
     pub script: Script,
 }

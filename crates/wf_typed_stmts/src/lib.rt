@@ -5,14 +5,14 @@
 pub mod assignments;
 pub mod bodies;
 pub mod building;
-pub mod calls;
-pub mod counting;
-pub mod heads;
+mod calls;
+mod counting;
+mod heads;
 pub mod laws;
-pub mod lists;
-pub mod simple;
-pub mod simple_stmts;
-pub mod targets;
+mod lists;
+mod simple;
+mod simple_stmts;
+mod targets;
 
 pub use bodies::elaborate_body;
 pub use building::BodyBuilding;

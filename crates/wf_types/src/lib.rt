@@ -2,8 +2,8 @@
 #![tactic(auto)]
 
 pub mod bodies;
-pub mod declared;
-pub mod declaring;
-pub mod locals;
-pub mod texts;
+mod declared;
+mod declaring;
+mod locals;
+mod texts;
 pub mod typing;

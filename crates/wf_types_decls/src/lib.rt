@@ -3,7 +3,7 @@
 #![tactic(auto)]
 
 pub mod declarations;
-pub mod declared_types;
+mod declared_types;
 pub mod heads;
 pub mod packages;
 

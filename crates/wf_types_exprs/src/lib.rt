@@ -7,7 +7,7 @@ pub mod here;
 pub mod operands;
 pub mod parts;
 pub mod reading;
-pub mod types;
+mod types;
 pub mod walk;
 pub mod whole;
 

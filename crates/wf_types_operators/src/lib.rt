@@ -6,5 +6,5 @@ pub mod fitting;
 pub mod given;
 pub mod meanings;
 pub mod taken;
-pub mod values;
-pub mod widths;
+mod values;
+mod widths;

@@ -4,6 +4,6 @@
 
 pub mod assignments;
 pub mod ends;
-pub mod results;
+mod results;
 pub mod statements;
-pub mod targets;
+mod targets;
