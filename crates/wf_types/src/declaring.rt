@@ -42,7 +42,8 @@ fn nothing_declared(
     })
 }
 
-/// What a package declares that was judged, but for its name and its orders. `Err` also comes where it has more texts than there are numbers.
+/// What a package declares that was judged, but for its name and its orders. `Err` also comes where it has more texts than there
+/// are numbers.
 pub(crate) fn declared(
     alloc: Global,
     nodes: &NamedNodes,
