@@ -36,11 +36,11 @@ use Rattle.wf_exprs.specs.Words.{literal, width_of}
 use Rattle.wf_lower_stmts.specs.BodyNodes.{started_of}
 use Rattle.wf_lower_stmts.specs.declared.walks.StartedNumbers.{StartedNumbers}
 use Rattle.wf_lower.specs.Made.{AddsFields, HasFieldTree, HasFieldTrees, HasItemTree, IsPlain}
-use Rattle.wf_lower.specs.Structs.{count_fields, held_fields, kept_field, kept_of, method_fields, number_fields}
+use Rattle.wf_lower.specs.Structs.{kept_field, kept_of, method_fields, number_fields}
 use Rattle.wf_lower.specs.Unit.{field, kept_fields, kept_type}
 use Rattle.wf_lower.proofs.Known.{count_same, made_there}
 use Rattle.wf_lower.proofs.PartLaws.{method_keeps, method_keeps_none}
-use Rattle.wf_lower.proofs.Kept.{keeps, type_there, type_same, fields_kept, fields_on, no_fields}
+use Rattle.wf_lower.proofs.Kept.{keeps, type_there, type_same, fields_kept, no_fields}
 
 pub one_field_as : {nodes : Nodes} {f : CField} {t u : FieldTree} → t ≡ u → HasFieldTree nodes f t → HasFieldTree nodes f u
 one_field_as e h = record { there = h.there; is = h.is ∙ e }
