@@ -1,8 +1,8 @@
 #!/usr/bin/env python3
 """How the cost of `gen` grows with a package, and its time beside that of compilers on the text that it writes. .ci/run looks at the
-growth.
+growth, and at the written packages.
 
-usage: compiler_benchmark.py PROGRAM [--growth] [SHAPE..]    all shapes are the default
+usage: compiler_benchmark.py PROGRAM [--growth | --written] [SHAPE..]    all shapes are the default
 The shapes are those of check_benchmark.py and a few of what `gen` alone makes much of; each grows by steps of about two up to the limit
 that ends it. What is counted is as it is there: instructions, where valgrind is there. The cost of a package without declarations is
 taken off. For each step comes the exponent of its growth, over the step's factor or that of the bytes read and written where this is
@@ -11,10 +11,14 @@ and ends the run with 1. With --growth that is all, and without valgrind nothing
 For the largest package of each shape comes the least time of three runs of `gen`, and of `tcc -c` and `gcc -O0 -c` on the text that it
 writes, one after another in turn, with the factor of `gen`, which checks the package first, over `tcc -c`. Compilers that aren't there
 are skipped.
+With --written, `gen` and `tcc -c` are compared alone, on each package of examples/ and tests/decoders/ and on the largest of the
+shapes of WRITTEN, a method of 1,024 points and 840 coroutines that are a page long each: the least time of several runs in turn, and the
+instructions of both, where valgrind is there. Where `gen` takes more instructions than `tcc -c`, the run ends with 1.
 """
 import math
 import os
 import pathlib
+import re
 import shutil
 import subprocess
 import sys
@@ -62,6 +66,8 @@ SHAPES = {
     "locals": (local_variables, (32, 64, 128, 256)),
     "copying": (check_benchmark.copying, (105, 210, 420, 840)),
 }
+
+WRITTEN = ("points", "copying")
 
 
 class Meter(check_benchmark.Meter):
@@ -118,10 +124,47 @@ def beside_compilers(meter, name, text):
     print(f"{name:14} {check_benchmark.size_of(text):8} bytes, {written:8} of C: {times}{factor}", flush=True)
 
 
+def instructions(words, folder):
+    """How many instructions one run takes."""
+    given = ["valgrind", "--tool=cachegrind", "--cache-sim=no", "--cachegrind-out-file=/dev/null", *words]
+    ran = subprocess.run(given, cwd=folder, stdout=subprocess.DEVNULL, stderr=subprocess.PIPE, text=True, check=True)
+    return int(re.search(r"I\s+refs:\s+([\d,]+)", ran.stderr)[1].replace(",", ""))
+
+
+def beside_tcc(program, folder, name, package, rounds):
+    """Compares `gen` with `tcc -c` on one package; whether it takes no more instructions."""
+    gen, tcc = [program, "gen", "n", package], ["tcc", "-c", "n.c", "-o", "n.o"]
+    times = [(seconds(gen, folder, "n.c"), seconds(tcc, folder, "said")) for _ in range(rounds)]
+    least = [min(took) for took in zip(*times)]
+    shown = f"{name:22} {os.path.getsize(package):8} bytes, {(folder / 'n.c').stat().st_size:8} of C: gen {least[0] * 1e3:8.2f} ms, tcc {least[1] * 1e3:8.2f} ms, factor {least[0] / least[1]:.2f}"
+    if not shutil.which("valgrind"):
+        print(shown, flush=True)
+        return True
+    counts = [instructions(words, folder) for words in (gen, tcc)]
+    print(f"{shown}; {counts[0] / 1e6:8.2f} and {counts[1] / 1e6:8.2f} M instructions, factor {counts[0] / counts[1]:.2f}", flush=True)
+    return counts[0] <= counts[1]
+
+
+def written(program, folder):
+    """Compares `gen` with `tcc -c` on packages as they are written; whether it takes no more instructions on each."""
+    if not shutil.which("tcc"):
+        print("there is no tcc, so gen wasn't compared with it")
+        return True
+    top = pathlib.Path(__file__).resolve().parent.parent
+    packages = sorted([*(top / "examples").glob("*.wuffs"), *(top / "tests/decoders").glob("*.wuffs")])
+    good = [beside_tcc(program, folder, str(package.relative_to(top)), package, 20) for package in packages]
+    for name in WRITTEN:
+        make, sizes = SHAPES[name]
+        package = folder / f"{name}.wuffs"
+        package.write_text(make(sizes[-1]))
+        good.append(beside_tcc(program, folder, name, package, 5))
+    return all(good)
+
+
 def main():
     words = sys.argv[1:]
     alone = "--growth" in words
-    program, *names = [word for word in words if word != "--growth"] or [""]
+    program, *names = [word for word in words if word not in ("--growth", "--written")] or [""]
     if not program or any(name not in SHAPES for name in names):
         print(__doc__)
         return 2
@@ -129,6 +172,8 @@ def main():
         print("there is no valgrind, so the growth of gen wasn't measured")
         return 0
     with tempfile.TemporaryDirectory() as at:
+        if "--written" in words:
+            return 0 if written(os.path.abspath(program), pathlib.Path(at)) else 1
         meter = Meter(os.path.abspath(program), pathlib.Path(at))
         names = names or list(SHAPES)
         good = [grows(meter, name, *SHAPES[name]) for name in names]
