@@ -157,7 +157,7 @@ impl PeekForm {
 
 impl BaseSig {
     /// The method's name, without its mark.
-    pub fn name(self) -> &'static str
+    pub(crate) fn name(self) -> &'static str
         ensures { result.now ≡ (row_of self).name }
     {
         match self {
