@@ -84,6 +84,15 @@ impl Unit {
         }
     }
 
+    /// Makes room for so many expressions and statements more. On `Err`, too, the unit is as before.
+    pub fn reserve(&mut self, exprs: usize, stmts: usize) -> Result<(), NoMemory>
+        ensures { self.new ≡ self.old }
+    {
+        self.exprs.reserve(exprs)?;
+        self.stmts.reserve(stmts)?;
+        Ok(())
+    }
+
     /// Each unit is a tree of the C grammar.
     pub(crate) fn is_lawful(&self)
         ensures { IsUnit (unit_tree self.now) }

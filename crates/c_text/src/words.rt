@@ -25,6 +25,9 @@ pub(crate) fn place_of(first: &[u8], second: &[u8], third: &[u8], fourth: &[u8])
 fn after<'a>(name: &'a [u8], word: &[u8]) -> Option<&'a [u8]>
     ensures { IfSome result (λ rest. name.now ≡ word.now ++ rest.now) }
 {
+    if word.is_empty() {
+        return Some(name);
+    }
     if name.len() < word.len() {
         return None;
     }

@@ -20,7 +20,7 @@ ghost use Rattle.wf_lower.specs.Unit.{all_functions as all_functions_of, initial
 use crate::bodies::body_function;
 use crate::entries::entry_function;
 use crate::initializing::initialize_function;
-use crate::source::{Source, started_by_method};
+use crate::source::{Source, started_by_method, statements};
 use crate::structs::{io_buffer, struct_item};
 use c_text::{CItem, CNameId, Unit};
 use std::alloc::Global;
@@ -319,6 +319,9 @@ pub fn lower(alloc: Global, a: &Accepted) -> Result<Unit, NoMemory>
     let t = a.typed();
     let started = started_by_method(alloc, t)?;
     let mut u = Unit::new(alloc);
+    // A statement of a coroutine often becomes about a dozen of C's, with not as many expressions.
+    let stmts = statements(t);
+    u.reserve(stmts.saturating_mul(8), stmts.saturating_mul(12))?;
     let p = Source {
         alloc,
         t,

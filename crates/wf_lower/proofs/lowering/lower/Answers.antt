@@ -11,4 +11,4 @@ pub add_items-requires : goal.add_items-requires
 add_items-requires c = ready c.as_slice.result.now c.args.a.now c.typed-t.ensures.kept c.requires c.typed-t.result.now c.points.result.now c.typed-t.ensures.same c.points.ensures.same (c.as_slice.ensures ∙ c.in_ok-started.ensures)
 
 pub returns : goal.returns
-returns c = whole_text c.new-u.result _ _ c.new-u.ensures c.in_ok-add_items.ensures ∙ ap (λ t. lowered_unit (package_of t)) c.typed-t.ensures.same
+returns c = whole_text c.reserve.new.self _ _ (c.reserve.ensures ∙ c.new-u.ensures) c.in_ok-add_items.ensures ∙ ap (λ t. lowered_unit (package_of t)) c.typed-t.ensures.same
