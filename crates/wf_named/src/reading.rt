@@ -30,7 +30,7 @@ impl NamedNodes {
     }
 
     /// How many expressions the package has.
-    pub(crate) fn exprs(&self) -> usize
+    pub fn exprs(&self) -> usize
         ensures { result ≡ length self.now.exprs }
     {
         self.exprs.len()

@@ -43,6 +43,13 @@ impl Building {
         }
     }
 
+    /// Makes room for so many expressions more. On `Err`, too, the package is as it was.
+    pub fn reserve(&mut self, exprs: usize) -> Result<(), AllocError>
+        ensures { self.new ≡ self.old }
+    {
+        self.columns.reserve(exprs)
+    }
+
     /// Adds an expression, whose parts are of this package and of the kinds that it wants. Its tree joins those of the
     /// others, and no other tree changes. On `Err`, which also comes where no number is left, the package is as it was.
     pub fn push_expr(&mut self, one: TypedExpr) -> Result<ExprId, AllocError>

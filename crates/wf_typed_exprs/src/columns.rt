@@ -62,6 +62,17 @@ impl Columns {
         self.exprs.len()
     }
 
+    /// Makes room for so many expressions more in each list. On `Err`, too, the lists are as before.
+    pub(crate) fn reserve(&mut self, exprs: usize) -> Result<(), AllocError>
+        ensures exprs { self.new.exprs.items ≡ self.old.exprs.items }
+        ensures types { self.new.types.items ≡ self.old.types.items }
+        ensures constants { self.new.constants.items ≡ self.old.constants.items }
+    {
+        self.exprs.reserve(exprs)?;
+        self.types.reserve(exprs)?;
+        self.constants.reserve(exprs)
+    }
+
     // Makes room for one expression more in each list.
     fn make_room(&mut self) -> Result<(), AllocError>
         ensures exprs { self.new.exprs.items ≡ self.old.exprs.items }

@@ -67,6 +67,15 @@ impl BodyBuilding {
         }
     }
 
+    /// Makes room for so many expressions and statements more. On `Err`, too, the package is as it was.
+    pub fn reserve(&mut self, exprs: usize, stmts: usize) -> Result<(), NoMemory>
+        ensures { self.new ≡ self.old }
+    {
+        self.building.reserve(exprs)?;
+        self.stmts.reserve(stmts)?;
+        Ok(())
+    }
+
     /// The package that is built.
     pub fn finish(self) -> TypedNodes
         ensures nodes { result ≡ self }

@@ -57,6 +57,7 @@ fn whole_nodes(alloc: Global, named: NamedNodes, judged: Judged) -> Result<Typed
 {
     let nodes = declared(alloc, &named, &judged)?;
     let mut building = BodyBuilding::new(alloc, nodes);
+    building.reserve(named.exprs(), named.stmts())?;
     let made = elaborate_bodies(alloc, &mut building, &named, judged)?;
     Ok(with_bodies(building.finish(), made, named))
 }

@@ -4,7 +4,7 @@ use Rattle.wf_types.proofs.TypedLaws.{declared_bare, whole_at}
 use Rattle.wf_types.proofs.typing.whole_nodes.Goals as goal
 
 pub elaborate_bodies-requires-clause-declared : goal.elaborate_bodies-requires-clause-declared
-elaborate_bodies-requires-clause-declared c = c.new-building.ensures ∙ ap without_nodes c.in_ok-nodes.ensures ∙ declared_bare c.args.named
+elaborate_bodies-requires-clause-declared c = c.reserve.ensures ∙ c.new-building.ensures ∙ ap without_nodes c.in_ok-nodes.ensures ∙ declared_bare c.args.named
 
 pub returns : goal.returns
 returns c =
