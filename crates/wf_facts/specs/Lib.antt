@@ -4,4 +4,5 @@ pub mod Examples
 pub mod FactLists
 pub mod Forms
 pub mod IndexedFacts
+pub mod PlainNumbers
 pub mod Sets

@@ -1,18 +1,20 @@
 // Facts come into the list.
 
 ghost use Rattle.std.specs.Prelude.{◌≡◌, ◌≤◌, ◌<◌, not, true, length, map, is_some, OnOk, OnErr, IfOk, IfSome, IsTrue};
-ghost use Rattle.wf_facts_exprs.specs.Claims.{claim_in, claims_in, is_among, is_fact, AreFacts};
+ghost use Rattle.wf_facts_exprs.specs.Claims.{claim_in, claims_in, is_among, is_fact, is_side, AreFacts};
 ghost use Rattle.wf_facts.specs.FactLists.{added, common};
 ghost use Rattle.wf_facts.specs.IndexedFacts.{IsOver, IsFullFor};
+ghost use Rattle.wf_facts.specs.PlainNumbers.{plain_number_of_side, plain_number_of, told_apart};
 ghost use Rattle.wf_facts.specs.Sets.{IsSetOf};
 
+use crate::forms::number;
 use crate::list::Facts;
 use crate::marking::mark;
 use crate::sameness::same_fact;
 use crate::sets::FactSet;
 use std::alloc::Global;
 use wf_ast::Typed;
-use wf_facts_exprs::Fact;
+use wf_facts_exprs::{Fact, Side};
 use wf_text::NoMemory;
 
 /// The answer of a call that would add a fact to a list of 512.
@@ -82,19 +84,65 @@ fn stands_in(t: &Typed, list: &[Fact], f: Fact) -> bool
     place_in(t, list, f).is_some()
 }
 
-// A place of a list at which a fact stands.
+// A place of a list at which a fact stands. Most facts of long lists compare with numbers, and are told apart by these.
 fn place_in(t: &Typed, list: &[Fact], f: Fact) -> Option<usize>
     requires fact { is_fact t.now f ≡ true }
     requires facts { AreFacts t.now list.now }
     ensures among { is_some result ≡ is_among (claims_in t.now list.now) (claim_in t.now f) }
     ensures place { IfSome result (λ place. place < length list.now) }
 {
+    let n = plain_number(t, f);
     for i in 0..list.len() {
+        if has_other_number(t, list[i], n) {
+            continue;
+        }
         if same_fact(t, list[i], f) {
             return Some(i);
         }
     }
     None
+}
+
+// The number that a fact compares with, where its right side is one expression or a number.
+fn plain_number(t: &Typed, f: Fact) -> Option<u64>
+    requires { is_fact t.now f ≡ true }
+    ensures { result ≡ plain_number_of t.now f }
+{
+    match f {
+        Fact::Compare { right, .. } => plain_side_number(t, right),
+        Fact::Cond { .. } => None,
+    }
+}
+
+// The number of a side that is one expression or a number.
+fn plain_side_number(t: &Typed, side: Side) -> Option<u64>
+    requires { is_side t.now side ≡ true }
+    ensures { result ≡ plain_number_of_side t.now side }
+{
+    match side {
+        Side::Expr(e) => number(t, e),
+        Side::Num(n) => Some(n),
+        Side::Sum(_, _) => None,
+        Side::Length(_) => None,
+    }
+}
+
+// Whether a fact compares with a number, and with another one than this.
+fn has_other_number(t: &Typed, f: Fact, n: Option<u64>) -> bool
+    requires { is_fact t.now f ≡ true }
+    ensures { result ≡ told_apart (plain_number_of t.now f) n }
+{
+    are_apart(plain_number(t, f), n)
+}
+
+// Whether these are two numbers.
+fn are_apart(m: Option<u64>, n: Option<u64>) -> bool
+    ensures { result ≡ told_apart m n }
+{
+    match (m, n) {
+        (Some(k), Some(l)) => k != l,
+        _ => false,
+    }
 }
 
 // The facts of a list that don't stand in another. Most stand there in the same order, so each is looked for first where
