@@ -3,6 +3,7 @@ pub mod ChainLemmas
 pub mod ClaimLemmas
 pub mod ConditionLemmas
 pub mod GivenLemmas
+pub mod HeadLemmas
 pub mod JudgeLemmas
 pub mod OperatorLemmas
 pub mod PassLemmas

@@ -6,6 +6,7 @@ mod conditions;
 pub mod facts;
 mod given;
 mod giving;
+mod heads;
 mod judging;
 pub mod laws;
 mod meeting;

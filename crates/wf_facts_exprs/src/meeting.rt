@@ -1,6 +1,6 @@
 // What a range is met with: the facts that compare the same tree with a number.
 
-ghost use Rattle.std.specs.Prelude.{◌≡◌, ℕ, ◌<◌, ◌^◌, IsTrue, IfSome};
+ghost use Rattle.std.specs.Prelude.{◌≡◌, ℕ, ◌<◌, ◌^◌, false, IsTrue, IfSome};
 ghost use Rattle.wf_num.specs.Ranges.{IsSmall};
 ghost use Rattle.wf_num.specs.declared.ranges.Range.{Range};
 ghost use Rattle.wf_ast.specs.Same.{same_num};
@@ -11,6 +11,7 @@ ghost use Rattle.wf_facts_exprs.specs.Operands.{pass_of};
 ghost use Rattle.wf_facts_exprs.specs.Shapes.{shape_fits, shape_tree};
 
 use crate::facts::{Cmp, Fact, Side};
+use crate::heads::are_other_variables;
 use crate::shapes::{Shape, has_shape, same_shapes, shape_of};
 use wf_ast::{ExprId, Typed};
 use wf_num::Range;
@@ -43,9 +44,49 @@ fn meet_by(t: &Typed, facts: &[Fact], pass: Pass, shape: Shape, r: Range) -> Ran
 {
     let mut met = r;
     for fact in facts {
+        if is_passed_over(t, *fact, pass, shape) {
+            continue;
+        }
         met = meet_fact(t, *fact, pass, shape, met);
     }
     met
+}
+
+// Whether a fact is seen at once to leave every range as it is in a pass.
+#[tactic(auto, using(crate::proofs::PassLemmas::met_with_passed, crate::proofs::HeadLemmas::met_with_other))]
+fn is_passed_over(t: &Typed, fact: Fact, pass: Pass, shape: Shape) -> bool
+    requires known { IsTrue (is_fact t.now fact) }
+    requires shape { IsTrue (shape_fits t.now shape) }
+    ensures { IsTrue result → (r : Range) → r ≡ met_by (pass_of pass) (claim_in t.now fact) (shape_tree t.now shape) r }
+{
+    match fact {
+        Fact::Compare { left, op, .. } => {
+            if passes_over(pass, op) {
+                return true;
+            }
+            is_other_variable(t, left, shape)
+        }
+        Fact::Cond { .. } => true,
+    }
+}
+
+// Whether a side is seen at once to be another variable than the one that a shape tells.
+fn is_other_variable(t: &Typed, side: Side, shape: Shape) -> bool
+    requires side { IsTrue (is_side t.now side) }
+    requires shape { IsTrue (shape_fits t.now shape) }
+    ensures { IsTrue result → same_num (tree_of_side (side_in t.now side)) (shape_tree t.now shape) ≡ false }
+{
+    match side {
+        Side::Expr(e) => match shape {
+            Shape::Other(other) => are_other_variables(t, e, other),
+            Shape::Number(_) => false,
+            Shape::Length(_, _) => false,
+            Shape::Sum(_, _) => false,
+        },
+        Side::Sum(_, _) => false,
+        Side::Length(_) => false,
+        Side::Num(_) => false,
+    }
 }
 
 #[tactic(auto, using(crate::proofs::PassLemmas::met_with_passed))]
