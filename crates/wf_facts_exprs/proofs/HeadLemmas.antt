@@ -25,6 +25,10 @@ pub other_variable : (b c : Bool) → not b ≡ true → (b && c) ≡ false
 other_variable true c h = absurd (cc (h))
 other_variable false c h = refl
 
+pub not_so : (b : Bool) → not b ≡ true → b ≡ false
+not_so true h = absurd (cc (h))
+not_so false h = refl
+
 pub met_with_other : (pass : Order → ℕ → Range → Range) (about : Bool) (op : Order) (n : Option ℕ) (r : Range) → about ≡ false → r ≡ met_with pass about op n r
 met_with_other pass true op n r h = absurd (cc (h))
 met_with_other pass false op n r h = refl

@@ -10,7 +10,8 @@ ghost use Rattle.wf_facts_exprs.specs.Shapes.{is_plain};
 
 use wf_ast::{Expr, ExprId, Typed};
 
-/// Whether two numeric expressions, of which the second is no constant, are two variables, or a variable and an operator.
+/// Whether two numeric expressions, of which the second is no constant, are two variables, or one is a variable and the other a
+/// chain. Those that need a longer look are told apart elsewhere.
 pub(crate) fn are_other_variables(t: &Typed, a: ExprId, b: ExprId) -> bool
     requires left { IsTrue (is_number_at t.now a) }
     requires right { IsTrue (is_number_at t.now b) }

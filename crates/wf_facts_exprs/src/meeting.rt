@@ -12,7 +12,7 @@ ghost use Rattle.wf_facts_exprs.specs.Shapes.{shape_fits, shape_tree};
 
 use crate::facts::{Cmp, Fact, Side};
 use crate::heads::are_other_variables;
-use crate::shapes::{Shape, has_shape, same_shapes, shape_of};
+use crate::shapes::{Shape, has_number, has_shape, same_shapes, shape_of};
 use wf_ast::{ExprId, Typed};
 use wf_num::Range;
 
@@ -64,14 +64,15 @@ fn is_passed_over(t: &Typed, fact: Fact, pass: Pass, shape: Shape) -> bool
             if passes_over(pass, op) {
                 return true;
             }
-            is_other_variable(t, left, shape)
+            is_other_side(t, left, shape)
         }
         Fact::Cond { .. } => true,
     }
 }
 
-// Whether a side is seen at once to be another variable than the one that a shape tells.
-fn is_other_variable(t: &Typed, side: Side, shape: Shape) -> bool
+// Whether a side is seen at once to be another number or variable than the one that a shape tells.
+#[tactic(auto, using(crate::proofs::HeadLemmas::not_so))]
+fn is_other_side(t: &Typed, side: Side, shape: Shape) -> bool
     requires side { IsTrue (is_side t.now side) }
     requires shape { IsTrue (shape_fits t.now shape) }
     ensures { IsTrue result → same_num (tree_of_side (side_in t.now side)) (shape_tree t.now shape) ≡ false }
@@ -79,7 +80,7 @@ fn is_other_variable(t: &Typed, side: Side, shape: Shape) -> bool
     match side {
         Side::Expr(e) => match shape {
             Shape::Other(other) => are_other_variables(t, e, other),
-            Shape::Number(_) => false,
+            Shape::Number(n) => !has_number(t, e, n),
             Shape::Length(_, _) => false,
             Shape::Sum(_, _) => false,
         },

@@ -161,8 +161,8 @@ pub(crate) fn has_shape(t: &Typed, e: ExprId, shape: Shape) -> bool
     }
 }
 
-// Whether a numeric expression is a constant with this number.
-fn has_number(t: &Typed, e: ExprId, n: u128) -> bool
+/// Whether a numeric expression is a constant with this number.
+pub(crate) fn has_number(t: &Typed, e: ExprId, n: u128) -> bool
     requires { IsTrue (is_number_at t.now e) }
     ensures { result ≡ same_num (num_in (tree_of t.now e)) (number no_place n) }
 {
