@@ -110,6 +110,17 @@ fn words_from(byte: u8) -> &'static [Word]
     }
 }
 
+/// Whether the word is written so. Most words have another length, and then nothing more of them is looked at.
+fn is_written(word: Word, text: &[u8]) -> bool
+    ensures { result ≡ pointwise nat_eq (word_text word) text.now }
+{
+    let written = text_of_word(word).as_bytes();
+    if written.len() != text.len() {
+        return false;
+    }
+    written == text
+}
+
 /// The word that is written so, looked for among those that begin with the first byte.
 fn find_word(text: &[u8]) -> Option<Word>
     ensures { result ≡ find (λ word. pointwise nat_eq (word_text word) text.now) (words_from (first_byte text.now)) }
@@ -117,7 +128,7 @@ fn find_word(text: &[u8]) -> Option<Word>
     words_from(first_byte(text))
         .iter()
         .copied()
-        .find(|word| text_of_word(*word).as_bytes() == text)
+        .find(|word| is_written(*word, text))
 }
 
 /// The word that is written so, if one is.
