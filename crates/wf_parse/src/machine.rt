@@ -219,7 +219,8 @@ impl Machine {
         ensures below { IfOk result (λ taken. taken ≡ false → self.new.wants ≡ self.old.wants) }
         ensures size { IfOk result (λ taken. size self.new ≤ size self.old + (if taken then 32 else 2)) }
     {
-        match &build(symbol, token) {
+        let built = build(symbol, token);
+        match &built {
             Build::Take(wants) => self.take(limited, symbol, token, wants),
             Build::Begin(wants) => self.begin(limited, symbol, token, wants),
             Build::Enter(wants) => self.enter(limited, symbol, token, wants),

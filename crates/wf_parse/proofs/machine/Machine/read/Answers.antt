@@ -7,19 +7,19 @@ use Rattle.wf_parse.proofs.machine.Machine.read.Goals as goal
 
 pub take-requires-clause-few : goal.take-requires-clause-few
 take-requires-clause-few c =
-    let few : length (wanted c.build.result) ≤ 12 = few_wanted c.args.symbol c.args.token.kind c.args.token.at c.build.result c.build.ensures in
+    let few : length (wanted c.build-built.result) ≤ 12 = few_wanted c.args.symbol c.args.token.kind c.args.token.at c.build-built.result c.build-built.ensures in
     let P : Build → Type 0 = λ b. length (wanted b) ≤ 12 in
     subst P c.in-Take.is few
 
 pub begin-requires-clause-few : goal.begin-requires-clause-few
 begin-requires-clause-few c =
-    let few : length (wanted c.build.result) ≤ 12 = few_wanted c.args.symbol c.args.token.kind c.args.token.at c.build.result c.build.ensures in
+    let few : length (wanted c.build-built.result) ≤ 12 = few_wanted c.args.symbol c.args.token.kind c.args.token.at c.build-built.result c.build-built.ensures in
     let P : Build → Type 0 = λ b. length (wanted b) ≤ 12 in
     subst P c.in-Begin.is few
 
 pub enter-requires-clause-few : goal.enter-requires-clause-few
 enter-requires-clause-few c =
-    let few : length (wanted c.build.result) ≤ 12 = few_wanted c.args.symbol c.args.token.kind c.args.token.at c.build.result c.build.ensures in
+    let few : length (wanted c.build-built.result) ≤ 12 = few_wanted c.args.symbol c.args.token.kind c.args.token.at c.build-built.result c.build-built.ensures in
     let P : Build → Type 0 = λ b. length (wanted b) ≤ 12 in
     subst P c.in-Enter.is few
 
