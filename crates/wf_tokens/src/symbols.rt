@@ -171,6 +171,7 @@ pub(crate) fn text_of_comparison(comparison: Comparison) -> &'static str
 }
 
 /// The symbol as it is written, in ASCII.
+#[inline(always)]
 pub(crate) fn text_of_symbol(symbol: Symbol) -> &'static str
     ensures { result.now ≡ symbol_text symbol }
 {
