@@ -13,8 +13,7 @@ pub fn put_name(u: &mut Unit, name: &[u8]) -> Result<CNameId, NoMemory>
     ensures grows { Grows u.old u.new }
     ensures made { IfOk result (λ n. HasNamed u.new n.0 name.now) }
 {
-    u.is_sound();
-    u.add_name(name)
+    put_words(u, b"", b"", b"", name)
 }
 
 /// The number of the name that is these words, one after the other; a word may be empty.
