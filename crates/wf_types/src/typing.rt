@@ -57,7 +57,9 @@ fn whole_nodes(alloc: Global, named: NamedNodes, judged: Judged) -> Result<Typed
 {
     let nodes = declared(alloc, &named, &judged)?;
     let mut building = BodyBuilding::new(alloc, nodes);
-    building.reserve(named.exprs(), named.stmts())?;
+    // Beside those of the resolved package, a typed one has expressions for what is assigned or called, and for locals.
+    let more = named.stmts().saturating_mul(2);
+    building.reserve(named.exprs().saturating_add(more), named.stmts())?;
     let made = elaborate_bodies(alloc, &mut building, &named, judged)?;
     Ok(with_bodies(building.finish(), made, named))
 }
