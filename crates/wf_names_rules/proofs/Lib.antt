@@ -1,3 +1,4 @@
+pub mod ApartLemmas
 pub mod ArgumentLemmas
 pub mod CalledLemmas
 pub mod InsertLemmas

@@ -1,6 +1,6 @@
 -- What each pass over a list of names finds, item by item. The laws of the passes tell that these are what the
 -- table of rules says.
-use Rattle.std.specs.Prelude.{ℕ, ◌+◌, Bool, true, false, List, [], ◌∷◌, map, Option, Some, None, slice_get, nat_eq}
+use Rattle.std.specs.Prelude.{ℕ, ◌+◌, ◌&&◌, ◌||◌, Bool, true, false, not, List, [], ◌∷◌, map, length, Option, Some, None, slice_get, nat_eq, nat_lt, nat_le}
 use Rattle.std.specs.List.{list_any}
 use Rattle.indexmap.specs.IndexSet.{insert_key}
 use Rattle.wf_text.specs.declared.place.Place.{Place}
@@ -20,6 +20,24 @@ refused_if false rule at = None
 abbrev pub doubles_of : (seen : List ℕ) → List Name → List (Option Refusal)
 doubles_of seen [] = []
 doubles_of seen (name ∷ names) = refused_if (list_any (nat_eq name.text.0) seen) N2 name.at ∷ doubles_of (insert_key nat_eq seen name.text.0) names
+
+-- Whether the texts of these names rise from one to the next, the first from `low` on. New names do.
+abbrev pub rise_from : (low : ℕ) → List Name → Bool
+rise_from low [] = true
+rise_from low (name ∷ names) = not (nat_lt name.text.0 low) && rise_from (name.text.0 + 1) names
+
+-- Whether a name has this text.
+abbrev pub have_text : (text : ℕ) → List Name → Bool
+have_text text names = list_any (λ (other : Name). nat_eq text other.text.0) names
+
+-- Whether no two of these names are alike.
+abbrev pub are_apart : List Name → Bool
+are_apart [] = true
+are_apart (name ∷ names) = not (have_text name.text.0 names) && are_apart names
+
+-- Whether it is seen without a set that no two of these names are alike: they rise, or they are few.
+abbrev pub are_plainly_apart : List Name → Bool
+are_plainly_apart names = rise_from 0 names || (nat_le (length names) 8 && are_apart names)
 
 abbrev pub bytes_at : List (List ℕ) → Name → List ℕ
 bytes_at texts name = bytes_in (slice_get texts name.text.0)

@@ -2,14 +2,14 @@
 
 ghost use Rattle.std.specs.Prelude.{◌≡◌, ◌<◌, not, [], slice_get, OnOk};
 ghost use Rattle.wf_text.specs.Precedence.{soonest};
-ghost use Rattle.wf_names_rules.specs.Passes.{refused_if as refuses_if, doubles_of, reserved_name as reserves_name, reserved_of, initialize as is_refused_initialize, initializes_of, is_flagged as flags_at, flagged_from, beyond as beyond_of};
+ghost use Rattle.wf_names_rules.specs.Passes.{refused_if as refuses_if, doubles_of, rise_from, have_text, are_apart, are_plainly_apart as differ_plainly, reserved_name as reserves_name, reserved_of, initialize as is_refused_initialize, initializes_of, is_flagged as flags_at, flagged_from, beyond as beyond_of};
 
 use crate::reserved::{is_initialize, is_reserved};
 use crate::tables::text_bytes;
 use indexmap::IndexSet;
 use std::alloc::Global;
-use wf_ast::PackageNodes;
 use wf_ast::parsed::Name;
+use wf_ast::{PackageNodes, TextId};
 use wf_text::Place;
 use wf_text::faults::NoMemory;
 use wf_text::found::Found;
@@ -40,10 +40,59 @@ pub fn twice(fresh: bool, name: Name) -> Option<Refusal>
     }
 }
 
+// So many names at most are compared with one another, rather than gathered in a set.
+const FEW: usize = 8;
+
+// Whether the texts of these names rise from one to the next, so that no two are alike. New names do.
+fn rise(names: &[Name]) -> bool
+    ensures { result ≡ rise_from 0 names.now }
+{
+    let mut low: u64 = 0;
+    for name in names {
+        let text = name.text.0 as u64;
+        if text < low {
+            return false;
+        }
+        low = text + 1;
+    }
+    true
+}
+
+fn has_text(text: TextId, names: &[Name]) -> bool
+    ensures { result ≡ have_text text.0 names.now }
+{
+    names.iter().any(|other| text.0 == other.text.0)
+}
+
+// Whether no two of these names are alike.
+fn apart(names: &[Name]) -> bool
+    ensures { result ≡ are_apart names.now }
+{
+    let mut passed = 0;
+    for name in names {
+        passed += 1;
+        let (_, behind) = names.split_at(passed);
+        if has_text(name.text, behind) {
+            return false;
+        }
+    }
+    true
+}
+
+// Whether it is seen without a set that no two of these names are alike: they rise, or they are few.
+fn are_plainly_apart(names: &[Name]) -> bool
+    ensures { result ≡ differ_plainly names.now }
+{
+    rise(names) || names.len() <= FEW && apart(names)
+}
+
 /// Names that an earlier one of the list has too, each refused at the later.
 pub fn doubles(alloc: Global, found: &mut Found, names: &[Name]) -> Result<(), NoMemory>
     ensures { OnOk result (found.new ≡ soonest found.old (doubles_of [] names.now)) }
 {
+    if are_plainly_apart(names) {
+        return Ok(());
+    }
     let mut seen = IndexSet::new(alloc);
     for name in names {
         let fresh = seen.insert(name.text.0)?;
