@@ -1,6 +1,5 @@
--- Tables of pairs, which grow by a pair at a time.
-use Rattle.std.proofs.Common.{◌≡◌, ℕ, Bool, true, false, ◌&&◌, cond, [], ◌∷◌, Option, Some, None, is_some, nat_eq, refl, sym, ap, ◌∙◌, subst}
-use Rattle.std.specs.Option.{option_or}
+-- When two pairs are one.
+use Rattle.std.proofs.Common.{◌≡◌, ℕ, Bool, true, false, ◌&&◌, [], ◌∷◌, nat_eq, refl, sym, ap, ◌∙◌}
 use Rattle.std.specs.declared.cmp.Ordering.{Ordering}
 use Rattle.std.specs.declared.cmp.Ordering.TheVariants.{Less, Equal, Greater}
 use Rattle.std.specs.Ordering.{is_eq, nat_cmp, ordering_then}
@@ -33,37 +32,3 @@ alike p q h =
     parts : (a b : Bool) → (a && b) ≡ true → (a ≡ true) × (b ≡ true)
     parts true b e = (refl, e)
     parts false b e = absurd (cc e)
-
-module _ {V : Type 0} (old : Pair → Option V) (key : Pair) (value : V) where
-  -- A pair that stands for something keeps it.
-  pub pair_known : is_some (old key) ≡ true → (other : Pair) → old other ≡ option_or (old other) (cond (same_pair key other) (Some value) None)
-  pair_known h other = by_test (same_pair key other) refl
-    where
-      kept : (o : Option V) → is_some o ≡ true → (r : Option V) → o ≡ option_or o r
-      kept (Some v) e r = refl
-      kept None e r = absurd (cc e)
-
-      ended : (o : Option V) → o ≡ option_or o None
-      ended (Some v) = refl
-      ended None = refl
-
-      by_test : (b : Bool) → same_pair key other ≡ b → old other ≡ option_or (old other) (cond b (Some value) None)
-      by_test true e = kept (old other) (subst (λ (p : Pair). is_some (old p) ≡ true) (alike key other e) h) (Some value)
-      by_test false e = ended (old other)
-
-  -- A pair that stands for nothing gets a value.
-  pub pair_new : (new : Pair → Option V) → is_some (old key) ≡ false → ((other : Pair) → new other ≡ cond (is_eq (pair_cmp key other)) (Some value) (old other))
-      → (other : Pair) → new other ≡ option_or (old other) (cond (same_pair key other) (Some value) None)
-  pair_new new h step other = step other ∙ ap (λ b. cond b (Some value) (old other)) (pair_ties key other) ∙ by_test (same_pair key other) refl
-    where
-      none : (o : Option V) → is_some o ≡ false → Some value ≡ option_or o (Some value)
-      none None e = refl
-      none (Some v) e = absurd (cc e)
-
-      ended : (o : Option V) → o ≡ option_or o None
-      ended (Some v) = refl
-      ended None = refl
-
-      by_test : (b : Bool) → same_pair key other ≡ b → cond b (Some value) (old other) ≡ option_or (old other) (cond b (Some value) None)
-      by_test true e = none (old other) (subst (λ (p : Pair). is_some (old p) ≡ false) (alike key other e) h)
-      by_test false e = ended (old other)

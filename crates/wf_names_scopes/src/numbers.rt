@@ -84,7 +84,8 @@ pub(crate) fn add_entry(variables: &mut Variables, name: TextId, sort: Sort) -> 
     Ok(())
 }
 
-/// Adds a pair of names, unless it stands for something already.
+/// Adds a pair of names, unless it stands for something already: then what it stood for is put back. Most pairs are new,
+/// and these are looked up once.
 pub(crate) fn put_pair<V: Copy + Drop>(
     table: &mut BTreeMap<(u32, u32), V>,
     key: (u32, u32),
@@ -92,11 +93,13 @@ pub(crate) fn put_pair<V: Copy + Drop>(
 ) -> Result<(), NoMemory>
     ensures { OnOk result ((pair : Pair) → pair_at table.new pair ≡ with_first same_pair (pair_at table.old) key value pair) }
 {
-    if table.contains_key(&key) {
-        return Ok(());
+    match table.insert(key, value)? {
+        None => Ok(()),
+        Some(first) => {
+            table.insert(key, first)?;
+            Ok(())
+        }
     }
-    table.insert(key, value)?;
-    Ok(())
 }
 
 /// The same of a field of the struct with the name `owner`.
