@@ -1,5 +1,5 @@
 -- Sets of pairs, which grow by a pair at a time.
-use Rattle.std.proofs.Common.{◌≡◌, ◌⊎◌, ℕ, ◌+◌, ◌<◌, ◌≤◌, min, Bool, true, false, not, cond, List, [], ◌∷◌, length, drop, slice_index_or, Option, refl, sym, ap, ◌∙◌, subst, inl, inr, arith}
+use Rattle.std.proofs.Common.{◌≡◌, ◌⊎◌, ℕ, ◌+◌, ◌<◌, ◌≤◌, min, Bool, true, false, not, cond, if◌then◌else◌, List, [], ◌∷◌, ◌++◌, length, drop, slice_index_or, Option, refl, sym, ap, ◌∙◌, subst, inl, inr, arith}
 use Rattle.std.specs.List.{list_any}
 use Rattle.std.specs.Ordering.{is_eq}
 use Rattle.indexmap.specs.IndexSet.{insert_key}
@@ -7,8 +7,9 @@ use Rattle.wf_text.specs.declared.rules.Rule.TheVariants.{N2}
 use Rattle.wf_text.specs.declared.rules.Refusal.{Refusal}
 use Rattle.wf_text.specs.Precedence.{sooner, soonest}
 use Rattle.wf_ast.specs.declared.parsed.Name.{Name}
-use Rattle.wf_names_rules.specs.Passes.{refused_if}
+use Rattle.wf_names_rules.specs.Passes.{refused_if, rise_from}
 use Rattle.wf_names_rules.specs.Pairs.{Pair, same_pair, pair_cmp}
+use Rattle.wf_names_rules.proofs.ApartLemmas.{rise-first, not_true}
 use Rattle.wf_names_rules.proofs.PairLemmas.{pair_ties, alike}
 use Rattle.wf_names_rules.proofs.WalkLemmas.{drop-one}
 use Rattle.wf_names_decls.specs.DeclarationPass.{pair_of, declared_twice_in_struct}
@@ -59,6 +60,30 @@ pass-step old new found next item ps owners names i owner name fresh r h k owner
       ap (λ o. soonest o rest) (joined ∙ ap (sooner found) is)
           ∙ sym (ap (λ xs. soonest found (declared_twice_in_struct ps xs (drop i names))) some_owner ∙ ap (λ xs. soonest found (declared_twice_in_struct ps (owner ∷ drop (i + 1) owners) xs)) some_name) ∙ all,
     )
+
+-- Methods of which the names rise, from a text on that is above all that are seen: none of their pairs is seen before.
+pub rising-pairs : (found : Option Refusal) (seen : List Pair) (low : ℕ) (owners names : List Name) → ((p : Pair) → list_any (same_pair p) seen ≡ true → p.1 < low)
+    → rise_from low names ≡ true → soonest found (declared_twice_in_struct seen owners names) ≡ found
+rising-pairs found seen low [] names below h = refl
+rising-pairs found seen low (owner ∷ owners) [] below h = refl
+rising-pairs found seen low (owner ∷ owners) (name ∷ names) below h =
+    let first = rise-first low name names h in
+    let fresh : list_any (same_pair key) seen ≡ false = not_true (list_any (same_pair key) seen) (λ s. absurd (omega (arith, first.0, below key s))) in
+    by (list_any (same_pair key) seen) fresh (rising-pairs found (insert_key same_pair seen key) (name.text.0 + 1) owners names still first.1)
+  where
+    key : Pair
+    key = pair_of owner name
+
+    still : (p : Pair) → list_any (same_pair p) (insert_key same_pair seen key) ≡ true → p.1 < name.text.0 + 1
+    still p s = elim (pair-only seen key p s) [
+      | inl k ↦ omega (arith, (rise-first low name names h).0, below p k)
+      | inr t ↦ (let same : p.1 ≡ name.text.0 = ap (λ (q : Pair). q.1) (alike p key t) in omega (arith, same))
+    ]
+
+    by : (b : Bool) → b ≡ false → soonest found (declared_twice_in_struct (if b then seen else seen ++ key ∷ []) owners names) ≡ found
+        → soonest (sooner found (refused_if b N2 name.at)) (declared_twice_in_struct (if b then seen else seen ++ key ∷ []) owners names) ≡ found
+    by false e r = r
+    by true e r = absurd (cc e)
 
 -- After the last method.
 no-name : (ps : List Pair) (owners : List Name) → declared_twice_in_struct ps owners [] ≡ []

@@ -10,7 +10,7 @@ use std::alloc::Global;
 use std::collections::BTreeSet;
 use wf_ast::parsed::Name;
 use wf_ast::{PackageNodes, TextId};
-use wf_names_rules::lists::{beyond, doubles, initializes, reserved, twice};
+use wf_names_rules::lists::{beyond, doubles, initializes, reserved, rise, twice};
 use wf_names_rules::tables::Variables;
 use wf_text::faults::NoMemory;
 use wf_text::found::Found;
@@ -42,8 +42,8 @@ pub(crate) fn judge_names(
     Ok(())
 }
 
-// Methods that an earlier one of their struct has the name of. Pairs are looked up in an ordered set, so that a look-up
-// takes few comparisons whatever the names are.
+// Methods that an earlier one of their struct has the name of: none where the names rise. Else pairs are looked up in an
+// ordered set, so that a look-up takes few comparisons whatever the names are.
 fn declared_twice_in_struct(
     alloc: Global,
     found: &mut Found,
@@ -52,6 +52,9 @@ fn declared_twice_in_struct(
 ) -> Result<(), NoMemory>
     ensures { OnOk result (found.new ≡ soonest found.old (are_twice_in_struct [] owners.now names.now)) }
 {
+    if rise(names) {
+        return Ok(());
+    }
     let mut seen: BTreeSet<(u32, u32)> = BTreeSet::new(alloc);
     for (owner, name) in owners.iter().zip(names) {
         let fresh = seen.insert((owner.text.0, name.text.0))?;

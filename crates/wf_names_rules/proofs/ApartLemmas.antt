@@ -1,5 +1,5 @@
 -- Lists of names of which no two are alike have nothing that is declared twice.
-use Rattle.std.proofs.Common.{◌≡◌, ◌⊎◌, ℕ, ◌+◌, ◌<◌, ◌&&◌, ◌||◌, Bool, true, false, not, if◌then◌else◌, List, [], ◌∷◌, ◌++◌, length, Option, nat_eq, nat_lt, nat_le, refl, inl, inr, arith}
+use Rattle.std.proofs.Common.{◌≡◌, ◌⊎◌, ℕ, ◌+◌, ◌<◌, ◌≤◌, ◌&&◌, ◌||◌, Bool, true, false, not, if◌then◌else◌, List, [], ◌∷◌, ◌++◌, length, Option, nat_eq, nat_lt, nat_le, refl, inl, inr, arith}
 use Rattle.std.proofs.lemmas.Bool.Decides.{nat_tests}
 use Rattle.indexmap.specs.IndexSet.{insert_key}
 use Rattle.wf_text.specs.Precedence.{sooner, soonest}
@@ -27,7 +27,7 @@ denied : (a : Bool) → not a ≡ true → a ≡ false
 denied false h = refl
 denied true h = absurd (cc h)
 
-not_true : (a : Bool) → (a ≡ true → ⊥) → a ≡ false
+pub not_true : (a : Bool) → (a ≡ true → ⊥) → a ≡ false
 not_true false h = refl
 not_true true h = absurd (h refl)
 
@@ -41,26 +41,26 @@ fresh_first found seen name names fresh rest = by (holds seen name.text.0) fresh
     by false e r = r
     by true e r = absurd (cc e)
 
-not_below : (a low : ℕ) → nat_lt a low ≡ false → a < low → ⊥
-not_below a low h l = absurd (grind (arith, nat_tests, h, l))
+-- Of names that rise from a text on the first has none below it, and the others rise from behind its own.
+pub rise-first : (low : ℕ) (name : Name) (names : List Name) → rise_from low (name ∷ names) ≡ true → (low ≤ name.text.0) × (rise_from (name.text.0 + 1) names ≡ true)
+rise-first low name names h =
+    let above : nat_lt name.text.0 low ≡ false = denied (nat_lt name.text.0 low) (first_holds (not (nat_lt name.text.0 low)) (rise_from (name.text.0 + 1) names) h) in
+    (grind (arith, nat_tests, above), second_holds (not (nat_lt name.text.0 low)) (rise_from (name.text.0 + 1) names) h)
 
 -- Names that rise, from a text on that is above all that are seen.
 rising : (found : Option Refusal) (seen : List ℕ) (low : ℕ) (names : List Name) → ((text : ℕ) → holds seen text ≡ true → text < low) → rise_from low names ≡ true
     → soonest found (doubles_of seen names) ≡ found
 rising found seen low [] below h = refl
 rising found seen low (name ∷ names) below h =
-    let text = name.text.0 in
-    let above : nat_lt text low ≡ false = denied (nat_lt text low) (first_holds (not (nat_lt text low)) (rise_from (text + 1) names) h) in
-    fresh_first found seen name names (not_true (holds seen text) (λ s. not_below text low above (below text s)))
-    (rising found (insert_key nat_eq seen text) (text + 1) names still (second_holds (not (nat_lt text low)) (rise_from (text + 1) names) h))
+    let first = rise-first low name names h in
+    fresh_first found seen name names (not_true (holds seen name.text.0) (λ s. absurd (omega (arith, first.0, below name.text.0 s))))
+    (rising found (insert_key nat_eq seen name.text.0) (name.text.0 + 1) names still first.1)
   where
     still : (other : ℕ) → holds (insert_key nat_eq seen name.text.0) other ≡ true → other < name.text.0 + 1
-    still other s =
-        let above : nat_lt name.text.0 low ≡ false = denied (nat_lt name.text.0 low) (first_holds (not (nat_lt name.text.0 low)) (rise_from (name.text.0 + 1) names) h) in
-        elim (insert-only seen name.text.0 other s) [
-          | inl k ↦ let l = below other k in let m : low < name.text.0 + 1 = grind (arith, nat_tests, above) in omega (arith, l, m)
-          | inr e ↦ omega (arith, e)
-        ]
+    still other s = elim (insert-only seen name.text.0 other s) [
+      | inl k ↦ omega (arith, (rise-first low name names h).0, below other k)
+      | inr e ↦ omega (arith, e)
+    ]
 
 -- Names of which no two are alike, and none is like one that is seen.
 unlike : (text : ℕ) (names : List Name) (other : ℕ) → have_text text names ≡ false → have_text other names ≡ true → other ≡ text → ⊥

@@ -6,8 +6,11 @@ use Rattle.std.specs.BTreeSet.{contains}
 use Rattle.wf_text.specs.Precedence.{soonest}
 use Rattle.wf_names_rules.specs.Pairs.{Pair, same_pair, pair_cmp}
 use Rattle.wf_names_decls.specs.DeclarationPass.{declared_twice_in_struct}
-use Rattle.wf_names_decls.proofs.PairSets.{pass-step, pass-end}
+use Rattle.wf_names_decls.proofs.PairSets.{rising-pairs, pass-step, pass-end}
 use Rattle.wf_names_decls.proofs.judging.declared_twice_in_struct.Goals as goal
+
+pub returns-then-rise : goal.returns-then-rise
+returns-then-rise c = sym (rising-pairs c.args.found.now [] 0 c.args.owners.now c.args.names.now (λ p s. absurd (cc s)) (sym c.rise.ensures ∙ c.if-rise.true))
 
 pub loop-owner-init : goal.loop-owner-init
 loop-owner-init c = ([], (λ p. ap (λ (keys : List Pair). list_any (λ key. is_eq (pair_cmp p key)) keys) c.new-seen.ensures.empty), refl)
