@@ -16,7 +16,7 @@ use crate::judging::{
 };
 use std::alloc::Global;
 use wf_ast::PackageNodes;
-use wf_ast::parsed::{Block, Decl, Field};
+use wf_ast::parsed::{Block, Decl, Field, Name};
 use wf_names_rules::tables::Variables;
 use wf_text::faults::NoMemory;
 use wf_text::found::Found;
@@ -43,15 +43,17 @@ fn judge_package(
     )
 }
 
+// The fields of a struct; their names pass through `names`, as those of each list do, so that one list serves all.
 fn judge_fields(
     alloc: Global,
     found: &mut Found,
     parsed: &PackageNodes,
+    names: &mut Vec<Name>,
     fields: &[Field],
 ) -> Result<(), NoMemory>
     ensures { OnOk result (found.new ≡ names_judged parsed.now.texts found.old (names_of_fields fields.now)) }
 {
-    let names = field_names(alloc, fields)?;
+    field_names(names, fields)?;
     judge_names(alloc, found, parsed, names.as_slice())
 }
 
@@ -60,12 +62,13 @@ fn judge_struct(
     alloc: Global,
     found: &mut Found,
     parsed: &PackageNodes,
+    names: &mut Vec<Name>,
     decl: &Decl,
 ) -> Result<(), NoMemory>
     ensures { (public : _) (at : _) → OnOk result (found.new ≡ fold (struct_judged parsed.now.texts) found.old (structs_of (decl_made (expr_trees parsed.now.exprs) (stmt_trees parsed.now.exprs parsed.now.stmts) public decl.now at ∷ []))) }
 {
     match decl {
-        Decl::Struct { fields, .. } => judge_fields(alloc, found, parsed, fields.as_slice()),
+        Decl::Struct { fields, .. } => judge_fields(alloc, found, parsed, names, fields.as_slice()),
         Decl::Status(_) => Ok(()),
         Decl::Const { .. } => Ok(()),
         Decl::Method { .. } => Ok(()),
@@ -75,8 +78,9 @@ fn judge_struct(
 fn judge_all_fields(alloc: Global, found: &mut Found, parsed: &PackageNodes) -> Result<(), NoMemory>
     ensures { OnOk result (found.new ≡ fields_found (declared parsed.now.texts (decl_trees parsed.now.exprs parsed.now.stmts parsed.now.decls)) found.old) }
 {
+    let mut names = Vec::new(alloc);
     for number in 0..parsed.decls().len() {
-        judge_struct(alloc, found, parsed, &parsed.decl(number).decl)?;
+        judge_struct(alloc, found, parsed, &mut names, &parsed.decl(number).decl)?;
     }
     Ok(())
 }
@@ -85,11 +89,12 @@ fn judge_arg_list(
     alloc: Global,
     found: &mut Found,
     parsed: &PackageNodes,
+    names: &mut Vec<Name>,
     args: &[Field],
 ) -> Result<(), NoMemory>
     ensures { OnOk result (found.new ≡ args_judged parsed.now.texts found.old (names_of_fields args.now)) }
 {
-    let names = field_names(alloc, args)?;
+    field_names(names, args)?;
     judge_args(alloc, found, parsed, names.as_slice())
 }
 
@@ -98,12 +103,13 @@ fn judge_body(
     found: &mut Found,
     parsed: &PackageNodes,
     constants: &Constants<'_>,
+    names: &mut Vec<Name>,
     body: &Block,
 ) -> Result<(), NoMemory>
     requires { BlockBelow (length parsed.now.stmts) body.now }
     ensures { OnOk result (found.new ≡ locals_judged (constant_by constants.now.names.now constants.now.places.now) parsed.now.texts found.old (variable_names (locals_of (block_at (stmt_trees parsed.now.exprs parsed.now.stmts) body.now)))) }
 {
-    let names = local_names(alloc, parsed, body)?;
+    local_names(names, parsed, body)?;
     judge_locals(alloc, found, parsed, constants, names.as_slice())
 }
 
@@ -112,14 +118,15 @@ fn judge_variables(
     found: &mut Found,
     parsed: &PackageNodes,
     constants: &Constants<'_>,
+    names: &mut Vec<Name>,
     args: &[Field],
     body: &Block,
 ) -> Result<(), NoMemory>
     requires { BlockBelow (length parsed.now.stmts) body.now }
     ensures { OnOk result (found.new ≡ locals_judged (constant_by constants.now.names.now constants.now.places.now) parsed.now.texts (args_judged parsed.now.texts found.old (names_of_fields args.now)) (variable_names (locals_of (block_at (stmt_trees parsed.now.exprs parsed.now.stmts) body.now)))) }
 {
-    judge_arg_list(alloc, found, parsed, args)?;
-    judge_body(alloc, found, parsed, constants, body)
+    judge_arg_list(alloc, found, parsed, names, args)?;
+    judge_body(alloc, found, parsed, constants, names, body)
 }
 
 // The arguments and locals of a method; other declarations have none.
@@ -128,6 +135,7 @@ fn judge_method(
     found: &mut Found,
     parsed: &PackageNodes,
     constants: &Constants<'_>,
+    names: &mut Vec<Name>,
     decl: &Decl,
 ) -> Result<(), NoMemory>
     requires { DeclParts (length parsed.now.exprs) (length parsed.now.stmts) decl.now }
@@ -135,7 +143,15 @@ fn judge_method(
 {
     match decl {
         Decl::Method { args, body, .. } => {
-            judge_variables(alloc, found, parsed, constants, args.as_slice(), body)
+            judge_variables(
+                alloc,
+                found,
+                parsed,
+                constants,
+                names,
+                args.as_slice(),
+                body,
+            )
         }
         Decl::Status(_) => Ok(()),
         Decl::Const { .. } => Ok(()),
@@ -151,8 +167,16 @@ fn judge_all_variables(
 ) -> Result<(), NoMemory>
     ensures { OnOk result (found.new ≡ fold (method_judged (constant_by constants.now.names.now constants.now.places.now) parsed.now.texts) found.old (methods_of (decl_trees parsed.now.exprs parsed.now.stmts parsed.now.decls))) }
 {
+    let mut names = Vec::new(alloc);
     for number in 0..parsed.decls().len() {
-        judge_method(alloc, found, parsed, constants, &parsed.decl(number).decl)?;
+        judge_method(
+            alloc,
+            found,
+            parsed,
+            constants,
+            &mut names,
+            &parsed.decl(number).decl,
+        )?;
     }
     Ok(())
 }

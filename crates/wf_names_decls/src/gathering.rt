@@ -122,29 +122,29 @@ pub fn name_lists(alloc: Global, parsed: &PackageNodes) -> Result<NameLists, NoM
     Ok(names)
 }
 
-/// The names of fields or arguments, in order.
-pub(crate) fn field_names(alloc: Global, fields: &[Field]) -> Result<Vec<Name>, NoMemory>
-    ensures { IfOk result (λ names. names.items ≡ fields_in fields.now) }
+/// The names of fields or arguments, in order, take the place of what is in the list.
+pub(crate) fn field_names(names: &mut Vec<Name>, fields: &[Field]) -> Result<(), NoMemory>
+    ensures { OnOk result (names.new.items ≡ fields_in fields.now) }
 {
-    let mut names = Vec::new(alloc);
+    names.clear();
     for field in fields {
         names.push(field.name)?;
     }
-    Ok(names)
+    Ok(())
 }
 
-/// The names of the locals that the statements of a body declare, in order.
+/// The names of the locals that the statements of a body declare, in order, take the place of what is in the list.
 pub(crate) fn local_names(
-    alloc: Global,
+    names: &mut Vec<Name>,
     parsed: &PackageNodes,
     body: &Block,
-) -> Result<Vec<Name>, NoMemory>
+) -> Result<(), NoMemory>
     requires { BlockBelow (length parsed.now.stmts) body.now }
-    ensures { IfOk result (λ names. names.items ≡ variable_names (locals_of (block_at (stmt_trees parsed.now.exprs parsed.now.stmts) body.now))) }
+    ensures { OnOk result (names.new.items ≡ variable_names (locals_of (block_at (stmt_trees parsed.now.exprs parsed.now.stmts) body.now))) }
 {
-    let mut names = Vec::new(alloc);
+    names.clear();
     for s in body.items.as_slice() {
-        push_name(&mut names, local_name(&parsed.stmt(*s).stmt))?;
+        push_name(names, local_name(&parsed.stmt(*s).stmt))?;
     }
-    Ok(names)
+    Ok(())
 }
