@@ -94,9 +94,12 @@ different found seen (name ∷ names) fresh h =
           | inr e ↦ unlike name.text.0 names other none k e
         ])
 
+pub rise-none : (found : Option Refusal) (names : List Name) → rise_from 0 names ≡ true → soonest found (doubles_of [] names) ≡ found
+rise-none found names h = rising found [] 0 names (λ text s. absurd (cc s)) h
+
 pub apart-none : (found : Option Refusal) (names : List Name) → are_plainly_apart names ≡ true → soonest found (doubles_of [] names) ≡ found
 apart-none found names h =
     elim (either (rise_from 0 names) (nat_le (length names) 8 && are_apart names) h) [
-      | inl r ↦ rising found [] 0 names (λ text s. absurd (cc s)) r
+      | inl r ↦ rise-none found names r
       | inr a ↦ different found [] names (λ text k. refl) (second_holds (nat_le (length names) 8) (are_apart names) a)
     ]

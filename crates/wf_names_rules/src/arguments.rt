@@ -8,6 +8,7 @@ ghost use Rattle.wf_base.specs.BaseTable.{row_of};
 ghost use Rattle.wf_ast.specs.ParsedTrees.{expr_trees, expr_at, given_at};
 ghost use Rattle.wf_ast.specs.ParsedParts.{GivenBelow};
 ghost use Rattle.wf_names_rules.specs.Declarations.{bytes_in, bytes_of};
+ghost use Rattle.wf_names_rules.specs.Passes.{rise_from};
 ghost use Rattle.wf_names_rules.specs.Tables.{args_at, arg_sort_at};
 ghost use Rattle.wf_names_rules.specs.Here.{known_here};
 ghost use Rattle.wf_names_rules.specs.Meanings.{given_values, of_base, parameters_of, is_parameter as has_parameter, lacks_one as lacks, is_io as reads_or_writes};
@@ -15,7 +16,7 @@ ghost use Rattle.wf_names_rules.specs.Judged.{arg_path, arg_path_at, given_twice
 
 use crate::callees::Callee;
 use crate::here::Here;
-use crate::lists::{doubles, refused_if};
+use crate::lists::{FEW, doubles, refused_if};
 use crate::sorts::Sort;
 use crate::tables::{Scope, Tables, arg_sort, text_bytes};
 use indexmap::IndexSet;
@@ -37,11 +38,30 @@ fn given_names(alloc: Global, args: &[Given]) -> Result<Vec<Name>, NoMemory>
     Ok(names)
 }
 
-// Arguments that are given twice.
-fn given_twice(alloc: Global, found: &mut Found, names: &[Name]) -> Result<(), NoMemory>
-    ensures { OnOk result (found.new ≡ soonest found.old (are_given_twice names.now)) }
+// Whether the texts of the names that are given rise from one to the next, so that no two are alike.
+fn given_rise(args: &[Given]) -> bool
+    ensures { result ≡ rise_from 0 (map (λ g. g.name) args.now) }
 {
-    doubles(alloc, found, names)
+    let mut low: u64 = 0;
+    for given in args {
+        let text = given.name.text.0 as u64;
+        if text < low {
+            return false;
+        }
+        low = text + 1;
+    }
+    true
+}
+
+// Arguments that are given twice: none where their names rise.
+fn given_twice(alloc: Global, found: &mut Found, args: &[Given]) -> Result<(), NoMemory>
+    ensures { OnOk result (found.new ≡ soonest found.old (are_given_twice (map (λ g. g.name) args.now))) }
+{
+    if given_rise(args) {
+        return Ok(());
+    }
+    let names = given_names(alloc, args)?;
+    doubles(alloc, found, names.as_slice())
 }
 
 fn is_io(sort: Option<Sort>) -> bool
@@ -145,12 +165,12 @@ fn base_has(parsed: &PackageNodes, sig: BaseSig, text: TextId) -> bool
 }
 
 // Whether what is given lacks an argument of a base method.
-fn base_lacks(parsed: &PackageNodes, sig: BaseSig, names: &[Name]) -> bool
-    ensures { result ≡ lacks (bytes_of parsed.now.texts) (of_base (map (λ arg. arg.0) (row_of sig).args)) (map (λ n. n.text.0) names.now) }
+fn base_lacks(parsed: &PackageNodes, sig: BaseSig, args: &[Given]) -> bool
+    ensures { result ≡ lacks (bytes_of parsed.now.texts) (of_base (map (λ arg. arg.0) (row_of sig).args)) (map (λ n. n.text.0) (map (λ g. g.name) args.now)) }
 {
     let mut i = 0;
     while let Some((arg, _)) = sig.arg(i) {
-        if !gives_bytes(parsed, names, arg.as_bytes()) {
+        if !gives_bytes(parsed, args, arg.as_bytes()) {
             return true;
         }
         i += 1;
@@ -159,11 +179,11 @@ fn base_lacks(parsed: &PackageNodes, sig: BaseSig, names: &[Name]) -> bool
 }
 
 // Whether a name of these bytes is given.
-fn gives_bytes(parsed: &PackageNodes, names: &[Name], wanted: &[u8]) -> bool
-    ensures { result ≡ list_any (λ text. bytes_eq wanted.now (bytes_in (slice_get parsed.now.texts text))) (map (λ n. n.text.0) names.now) }
+fn gives_bytes(parsed: &PackageNodes, args: &[Given], wanted: &[u8]) -> bool
+    ensures { result ≡ list_any (λ text. bytes_eq wanted.now (bytes_in (slice_get parsed.now.texts text))) (map (λ n. n.text.0) (map (λ g. g.name) args.now)) }
 {
-    for name in names {
-        if wanted == text_bytes(parsed, name.text) {
+    for given in args {
+        if wanted == text_bytes(parsed, given.name.text) {
             return true;
         }
     }
@@ -214,22 +234,22 @@ fn unknown_arguments(
     parsed: &PackageNodes,
     tables: &Tables,
     callee: Callee,
-    names: &[Name],
+    args: &[Given],
 )
-    ensures { found.new ≡ soonest found.old (are_unknown_arguments (bytes_of parsed.now.texts) (parameters_of (args_at tables.now) callee) names.now) }
+    ensures { found.new ≡ soonest found.old (are_unknown_arguments (bytes_of parsed.now.texts) (parameters_of (args_at tables.now) callee) (map (λ g. g.name) args.now)) }
 {
-    for name in names {
-        found.refuse(unknown_argument(parsed, tables, callee, *name));
+    for given in args {
+        found.refuse(unknown_argument(parsed, tables, callee, given.name));
     }
 }
 
-// The texts of names, each once.
-fn texts(alloc: Global, names: &[Name]) -> Result<IndexSet<u32>, NoMemory>
-    ensures { IfOk result (λ set. set.keys ≡ insert_all nat_eq [] (map (λ n. n.text.0) names.now)) }
+// The texts of the names that are given, each once.
+fn texts(alloc: Global, args: &[Given]) -> Result<IndexSet<u32>, NoMemory>
+    ensures { IfOk result (λ set. set.keys ≡ insert_all nat_eq [] (map (λ n. n.text.0) (map (λ g. g.name) args.now))) }
 {
     let mut set = IndexSet::new(alloc);
-    for name in names {
-        set.insert(name.text.0)?;
+    for given in args {
+        set.insert(given.name.text.0)?;
     }
     Ok(set)
 }
@@ -255,27 +275,57 @@ fn wanted_args(tables: &Tables, m: usize) -> &[u32]
     }
 }
 
-fn lacks_arg(alloc: Global, tables: &Tables, m: usize, names: &[Name]) -> Result<bool, NoMemory>
-    ensures { IfOk result (λ lacking. lacking ≡ list_any (λ text. not (list_any (nat_eq text) (map (λ n. n.text.0) names.now))) (args_at tables.now m)) }
+// Whether a name of this text is given.
+fn gives(text: u32, args: &[Given]) -> bool
+    ensures { result ≡ list_any (nat_eq text) (map (λ n. n.text.0) (map (λ g. g.name) args.now)) }
 {
-    let given = texts(alloc, names)?;
-    Ok(any_outside(wanted_args(tables, m), &given))
+    for given in args {
+        if text == given.name.text.0 {
+            return true;
+        }
+    }
+    false
 }
 
-// Whether an argument of the method isn't among the given names.
+// Whether one of these isn't given.
+fn any_not_given(wanted: &[u32], args: &[Given]) -> bool
+    ensures { result ≡ list_any (λ text. not (list_any (nat_eq text) (map (λ n. n.text.0) (map (λ g. g.name) args.now)))) wanted.now }
+{
+    for text in wanted {
+        if !gives(*text, args) {
+            return true;
+        }
+    }
+    false
+}
+
+// Whether an argument of the method with this number isn't given. Where few are, they are compared with each that is
+// wanted, rather than gathered in a set.
+fn lacks_arg(alloc: Global, tables: &Tables, m: usize, args: &[Given]) -> Result<bool, NoMemory>
+    ensures { IfOk result (λ lacking. lacking ≡ list_any (λ text. not (list_any (nat_eq text) (map (λ n. n.text.0) (map (λ g. g.name) args.now)))) (args_at tables.now m)) }
+{
+    let wanted = wanted_args(tables, m);
+    if args.len() <= FEW {
+        return Ok(any_not_given(wanted, args));
+    }
+    let given = texts(alloc, args)?;
+    Ok(any_outside(wanted, &given))
+}
+
+// Whether an argument of the method isn't given.
 fn lacks_one(
     alloc: Global,
     parsed: &PackageNodes,
     tables: &Tables,
     callee: Callee,
-    names: &[Name],
+    args: &[Given],
 ) -> Result<bool, NoMemory>
-    ensures { IfOk result (λ lacking. lacking ≡ lacks (bytes_of parsed.now.texts) (parameters_of (args_at tables.now) callee) (map (λ n. n.text.0) names.now)) }
+    ensures { IfOk result (λ lacking. lacking ≡ lacks (bytes_of parsed.now.texts) (parameters_of (args_at tables.now) callee) (map (λ n. n.text.0) (map (λ g. g.name) args.now))) }
 {
     match callee {
-        Callee::Own(m) => lacks_arg(alloc, tables, m, names),
-        Callee::Hidden(m) => lacks_arg(alloc, tables, m, names),
-        Callee::Base(sig) => Ok(base_lacks(parsed, sig, names)),
+        Callee::Own(m) => lacks_arg(alloc, tables, m, args),
+        Callee::Hidden(m) => lacks_arg(alloc, tables, m, args),
+        Callee::Base(sig) => Ok(base_lacks(parsed, sig, args)),
         Callee::Foreign => Ok(false),
         Callee::Missing => Ok(false),
         Callee::Baseless => Ok(false),
@@ -288,11 +338,11 @@ fn missing_argument(
     here: &Here<'_>,
     callee: Callee,
     method: Name,
-    names: &[Name],
+    args: &[Given],
 ) -> Result<Option<Refusal>, NoMemory>
-    ensures { IfOk result (λ refusal. refusal ≡ lacks_argument (bytes_of here.now.parsed.now.texts) (parameters_of (args_at here.now.tables.now) callee) method names.now) }
+    ensures { IfOk result (λ refusal. refusal ≡ lacks_argument (bytes_of here.now.parsed.now.texts) (parameters_of (args_at here.now.tables.now) callee) method (map (λ g. g.name) args.now)) }
 {
-    let lacking = lacks_one(alloc, here.parsed, here.tables, callee, names)?;
+    let lacking = lacks_one(alloc, here.parsed, here.tables, callee, args)?;
     Ok(refused_if(lacking, Rule::N7, method.at))
 }
 
@@ -308,11 +358,10 @@ pub(crate) fn judge_given(
     requires { GivenBelow (length here.now.parsed.now.exprs) args.now }
     ensures { OnOk result (found.new ≡ given_judged (known_here here.now) found.old (parameters_of (args_at here.now.tables.now) callee) name (map (λ g. g.name) args.now) (given_values (given_at (expr_trees here.now.parsed.now.exprs) args.now))) }
 {
-    let names = given_names(alloc, args)?;
-    given_twice(alloc, found, names.as_slice())?;
+    given_twice(alloc, found, args)?;
     passed_twice(alloc, found, here.parsed, here.tables, here.scope, args)?;
-    unknown_arguments(found, here.parsed, here.tables, callee, names.as_slice());
-    let missing = missing_argument(alloc, here, callee, name, names.as_slice())?;
+    unknown_arguments(found, here.parsed, here.tables, callee, args);
+    let missing = missing_argument(alloc, here, callee, name, args)?;
     found.refuse(missing);
     Ok(())
 }

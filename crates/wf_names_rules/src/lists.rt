@@ -40,8 +40,8 @@ pub fn twice(fresh: bool, name: Name) -> Option<Refusal>
     }
 }
 
-// So many names at most are compared with one another, rather than gathered in a set.
-const FEW: usize = 8;
+/// So many names at most are compared with one another, rather than gathered in a set.
+pub(crate) const FEW: usize = 8;
 
 /// Whether the texts of these names rise from one to the next, so that no two are alike. New names do.
 pub fn rise(names: &[Name]) -> bool

@@ -4,5 +4,5 @@ use Rattle.wf_names_rules.proofs.arguments.lacks_arg.Goals as goal
 
 pub returns : goal.returns
 returns c =
-    let all = c.any_outside.ensures ∙ outside_same c.in_ok-given.given.keys (map (λ n. n.text.0) c.args.names.now) c.wanted_args.result.now c.in_ok-given.ensures in
-    rw c.wanted_args.ensures at all
+    let all = c.any_outside.ensures ∙ outside_same c.in_ok-given.given.keys (map (λ n. n.text.0) (map (λ g. g.name) c.args.args.now)) c.wanted_args-wanted.result.now c.in_ok-given.ensures in
+    rw c.wanted_args-wanted.ensures at all
