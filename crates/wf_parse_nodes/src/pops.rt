@@ -1,6 +1,5 @@
-// Taking a value of a known shape from the top of the stack. Here and where the values are made into one thing each
-// function stays a call of its own: one that takes in the others would clear the room for the values of all of them
-// whenever it begins.
+// Taking a value of a known shape from the top of the stack. Where the values are made into one thing each function stays
+// a call of its own: one that takes in the others would clear the room for the values of all of them whenever it begins.
 
 ghost use Rattle.std.specs.Prelude.{◌≡◌, ◌<◌, [], ◌∷◌, true};
 ghost use Rattle.wf_parse_nodes.specs.Shapes.{fits};
@@ -21,7 +20,6 @@ use wf_text::Place;
 fn lost(_top: Option<SemanticValue>) {}
 
 /// Takes a name or a text from the top.
-#[inline(never)]
 pub(crate) fn pop_name(values: &mut Stack<SemanticValue>) -> Name
     requires { fits (shapes.Name ∷ []) values.old ≡ true }
     ensures { values.old ≡ vals.Name result ∷ values.new }
@@ -36,7 +34,6 @@ pub(crate) fn pop_name(values: &mut Stack<SemanticValue>) -> Name
 }
 
 /// Takes a place from the top.
-#[inline(never)]
 pub(crate) fn pop_place(values: &mut Stack<SemanticValue>) -> Place
     requires { fits (shapes.Place ∷ []) values.old ≡ true }
     ensures { values.old ≡ vals.Place result ∷ values.new }
@@ -51,7 +48,6 @@ pub(crate) fn pop_place(values: &mut Stack<SemanticValue>) -> Place
 }
 
 /// Takes a mark from the top.
-#[inline(never)]
 pub(crate) fn pop_mark(values: &mut Stack<SemanticValue>) -> WrittenMark
     requires { fits (shapes.Mark ∷ []) values.old ≡ true }
     ensures { values.old ≡ vals.Mark result ∷ values.new }
@@ -66,7 +62,6 @@ pub(crate) fn pop_mark(values: &mut Stack<SemanticValue>) -> WrittenMark
 }
 
 /// Takes whether a declaration is public from the top.
-#[inline(never)]
 pub(crate) fn pop_public(values: &mut Stack<SemanticValue>) -> bool
     requires { fits (shapes.Public ∷ []) values.old ≡ true }
     ensures { values.old ≡ vals.Public result ∷ values.new }
@@ -81,7 +76,6 @@ pub(crate) fn pop_public(values: &mut Stack<SemanticValue>) -> bool
 }
 
 /// Takes the sign of an assignment from the top.
-#[inline(never)]
 pub(crate) fn pop_sign(values: &mut Stack<SemanticValue>) -> Sign
     requires { fits (shapes.Sign ∷ []) values.old ≡ true }
     ensures { values.old ≡ vals.Sign result ∷ values.new }
@@ -96,7 +90,6 @@ pub(crate) fn pop_sign(values: &mut Stack<SemanticValue>) -> Sign
 }
 
 /// Takes a path from the top.
-#[inline(never)]
 pub(crate) fn pop_path(values: &mut Stack<SemanticValue>) -> Path
     requires { fits (shapes.Path ∷ []) values.old ≡ true }
     ensures { values.old ≡ vals.Path result ∷ values.new }
@@ -111,7 +104,6 @@ pub(crate) fn pop_path(values: &mut Stack<SemanticValue>) -> Path
 }
 
 /// Takes what a call is made on from the top.
-#[inline(never)]
 pub(crate) fn pop_receiver(values: &mut Stack<SemanticValue>) -> Receiver
     requires { fits (shapes.Receiver ∷ []) values.old ≡ true }
     ensures { values.old ≡ vals.Receiver result ∷ values.new }
@@ -126,7 +118,6 @@ pub(crate) fn pop_receiver(values: &mut Stack<SemanticValue>) -> Receiver
 }
 
 /// Takes an expression from the top.
-#[inline(never)]
 pub(crate) fn pop_expr(values: &mut Stack<SemanticValue>) -> ExprId
     requires { fits (shapes.Expr ∷ []) values.old ≡ true }
     ensures { values.old ≡ vals.Expr result ∷ values.new }
@@ -141,7 +132,6 @@ pub(crate) fn pop_expr(values: &mut Stack<SemanticValue>) -> ExprId
 }
 
 /// Takes an expression that may be absent from the top.
-#[inline(never)]
 pub(crate) fn pop_part(values: &mut Stack<SemanticValue>) -> Option<ExprId>
     requires { fits (shapes.Part ∷ []) values.old ≡ true }
     ensures { values.old ≡ vals.Part result ∷ values.new }
@@ -156,7 +146,6 @@ pub(crate) fn pop_part(values: &mut Stack<SemanticValue>) -> Option<ExprId>
 }
 
 /// Takes a chain from the top.
-#[inline(never)]
 pub(crate) fn pop_chain(values: &mut Stack<SemanticValue>) -> OpenChain
     requires { fits (shapes.Chain ∷ []) values.old ≡ true }
     ensures { values.old ≡ vals.Chain result ∷ values.new }
@@ -168,7 +157,6 @@ pub(crate) fn pop_chain(values: &mut Stack<SemanticValue>) -> OpenChain
 }
 
 /// Takes arguments from the top.
-#[inline(never)]
 pub(crate) fn pop_givens(values: &mut Stack<SemanticValue>) -> Sequence<Given>
     requires { fits (shapes.Givens ∷ []) values.old ≡ true }
     ensures { values.old ≡ vals.Givens result ∷ values.new }
@@ -180,7 +168,6 @@ pub(crate) fn pop_givens(values: &mut Stack<SemanticValue>) -> Sequence<Given>
 }
 
 /// Takes a call from the top.
-#[inline(never)]
 pub(crate) fn pop_call(values: &mut Stack<SemanticValue>) -> Call
     requires { fits (shapes.Call ∷ []) values.old ≡ true }
     ensures { values.old ≡ vals.Call result ∷ values.new }
@@ -192,7 +179,6 @@ pub(crate) fn pop_call(values: &mut Stack<SemanticValue>) -> Call
 }
 
 /// Takes the prefixes of a type from the top.
-#[inline(never)]
 pub(crate) fn pop_prefixes(values: &mut Stack<SemanticValue>) -> Sequence<Prefix>
     requires { fits (shapes.Prefixes ∷ []) values.old ≡ true }
     ensures { values.old ≡ vals.Prefixes result ∷ values.new }
@@ -204,7 +190,6 @@ pub(crate) fn pop_prefixes(values: &mut Stack<SemanticValue>) -> Sequence<Prefix
 }
 
 /// Takes what a type that begins with `base` names from the top.
-#[inline(never)]
 pub(crate) fn pop_core(values: &mut Stack<SemanticValue>) -> OpenCore
     requires { fits (shapes.Core ∷ []) values.old ≡ true }
     ensures { values.old ≡ vals.Core result ∷ values.new }
@@ -219,7 +204,6 @@ pub(crate) fn pop_core(values: &mut Stack<SemanticValue>) -> OpenCore
 }
 
 /// Takes bounds from the top.
-#[inline(never)]
 pub(crate) fn pop_bounds(values: &mut Stack<SemanticValue>) -> Option<Bounds>
     requires { fits (shapes.Bounds ∷ []) values.old ≡ true }
     ensures { values.old ≡ vals.Bounds result ∷ values.new }
@@ -234,7 +218,6 @@ pub(crate) fn pop_bounds(values: &mut Stack<SemanticValue>) -> Option<Bounds>
 }
 
 /// Takes a type from the top.
-#[inline(never)]
 pub(crate) fn pop_type(values: &mut Stack<SemanticValue>) -> TypeExpr
     requires { fits (shapes.Type ∷ []) values.old ≡ true }
     ensures { values.old ≡ vals.Type result ∷ values.new }
@@ -246,7 +229,6 @@ pub(crate) fn pop_type(values: &mut Stack<SemanticValue>) -> TypeExpr
 }
 
 /// Takes statements from the top.
-#[inline(never)]
 pub(crate) fn pop_items(values: &mut Stack<SemanticValue>) -> Sequence<StmtId>
     requires { fits (shapes.Items ∷ []) values.old ≡ true }
     ensures { values.old ≡ vals.Items result ∷ values.new }
@@ -258,7 +240,6 @@ pub(crate) fn pop_items(values: &mut Stack<SemanticValue>) -> Sequence<StmtId>
 }
 
 /// Takes a block from the top.
-#[inline(never)]
 pub(crate) fn pop_block(values: &mut Stack<SemanticValue>) -> Block
     requires { fits (shapes.Block ∷ []) values.old ≡ true }
     ensures { values.old ≡ vals.Block result ∷ values.new }
@@ -270,7 +251,6 @@ pub(crate) fn pop_block(values: &mut Stack<SemanticValue>) -> Block
 }
 
 /// Takes a statement from the top.
-#[inline(never)]
 pub(crate) fn pop_stmt(values: &mut Stack<SemanticValue>) -> StmtId
     requires { fits (shapes.Stmt ∷ []) values.old ≡ true }
     ensures { values.old ≡ vals.Stmt result ∷ values.new }
@@ -285,7 +265,6 @@ pub(crate) fn pop_stmt(values: &mut Stack<SemanticValue>) -> StmtId
 }
 
 /// Takes a target from the top.
-#[inline(never)]
 pub(crate) fn pop_target(values: &mut Stack<SemanticValue>) -> Target
     requires { fits (shapes.Target ∷ []) values.old ≡ true }
     ensures { values.old ≡ vals.Target result ∷ values.new }
@@ -300,7 +279,6 @@ pub(crate) fn pop_target(values: &mut Stack<SemanticValue>) -> Target
 }
 
 /// Takes the arms of an `if` from the top.
-#[inline(never)]
 pub(crate) fn pop_arms(values: &mut Stack<SemanticValue>) -> Sequence<Arm>
     requires { fits (shapes.Arms ∷ []) values.old ≡ true }
     ensures { values.old ≡ vals.Arms result ∷ values.new }
@@ -312,7 +290,6 @@ pub(crate) fn pop_arms(values: &mut Stack<SemanticValue>) -> Sequence<Arm>
 }
 
 /// Takes the block after a last `else` from the top.
-#[inline(never)]
 pub(crate) fn pop_otherwise(values: &mut Stack<SemanticValue>) -> Option<Block>
     requires { fits (shapes.Otherwise ∷ []) values.old ≡ true }
     ensures { values.old ≡ vals.Otherwise result ∷ values.new }
@@ -324,7 +301,6 @@ pub(crate) fn pop_otherwise(values: &mut Stack<SemanticValue>) -> Option<Block>
 }
 
 /// Takes the promises of a loop from the top.
-#[inline(never)]
 pub(crate) fn pop_clauses(values: &mut Stack<SemanticValue>) -> Sequence<LoopClause>
     requires { fits (shapes.Clauses ∷ []) values.old ≡ true }
     ensures { values.old ≡ vals.Clauses result ∷ values.new }
@@ -336,7 +312,6 @@ pub(crate) fn pop_clauses(values: &mut Stack<SemanticValue>) -> Sequence<LoopCla
 }
 
 /// Takes a label from the top.
-#[inline(never)]
 pub(crate) fn pop_label(values: &mut Stack<SemanticValue>) -> Option<Name>
     requires { fits (shapes.Label ∷ []) values.old ≡ true }
     ensures { values.old ≡ vals.Label result ∷ values.new }
@@ -351,7 +326,6 @@ pub(crate) fn pop_label(values: &mut Stack<SemanticValue>) -> Option<Name>
 }
 
 /// Takes an axiom with what is given to it from the top.
-#[inline(never)]
 pub(crate) fn pop_via(values: &mut Stack<SemanticValue>) -> Option<Via>
     requires { fits (shapes.Via ∷ []) values.old ≡ true }
     ensures { values.old ≡ vals.Via result ∷ values.new }
@@ -363,7 +337,6 @@ pub(crate) fn pop_via(values: &mut Stack<SemanticValue>) -> Option<Via>
 }
 
 /// Takes fields from the top.
-#[inline(never)]
 pub(crate) fn pop_fields(values: &mut Stack<SemanticValue>) -> Sequence<Field>
     requires { fits (shapes.Fields ∷ []) values.old ≡ true }
     ensures { values.old ≡ vals.Fields result ∷ values.new }
@@ -375,7 +348,6 @@ pub(crate) fn pop_fields(values: &mut Stack<SemanticValue>) -> Sequence<Field>
 }
 
 /// Takes the result of a method from the top.
-#[inline(never)]
 pub(crate) fn pop_result(values: &mut Stack<SemanticValue>) -> Option<TypeExpr>
     requires { fits (shapes.Result ∷ []) values.old ≡ true }
     ensures { values.old ≡ vals.Result result ∷ values.new }
