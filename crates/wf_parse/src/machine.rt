@@ -1,20 +1,24 @@
 // The machine of the grammar: what is wanted stands on a stack, and each token is looked up in the table for the
 // topmost of it.
 
-ghost use Rattle.std.specs.Prelude.{◌≡◌, ◌+◌, ◌<◌, ◌≤◌, ◌^◌, ◌⊎◌, if◌then◌else◌, ◌∷◌, drop, length, true, false, nat_le, IfOk, IfErr, OnOk};
+ghost use Rattle.std.specs.Prelude.{◌≡◌, ◌+◌, ◌<◌, ◌≤◌, ◌^◌, ◌⊎◌, ◌&&◌, if◌then◌else◌, [], ◌∷◌, drop, length, true, false, nat_le, IfOk, IfErr, IfSome, OnOk};
+ghost use Rattle.wf_text.specs.declared.place.Place.{Place};
 ghost use Rattle.wf_text.specs.declared.rules.Rule.TheVariants.{S5};
 ghost use Rattle.wf_parse.specs.declared.machine.StepFault.TheVariants.{Refused, Memory};
-ghost use Rattle.wf_parse_grammar.specs.declared.symbols.Want.TheVariants.{Read};
+ghost use Rattle.wf_parse_grammar.specs.declared.symbols.Action.TheVariants as does;
+ghost use Rattle.wf_parse_grammar.specs.declared.symbols.Sym.TheVariants as syms;
+ghost use Rattle.wf_parse_grammar.specs.declared.symbols.Want.TheVariants.{Make, Read};
 ghost use Rattle.wf_parse_grammar.specs.declared.builds.Build.TheVariants as builds;
 ghost use Rattle.wf_parse_grammar.specs.Building.{open_wants, build, skipped};
-ghost use Rattle.wf_parse_grammar.specs.Machine.{may_end};
+ghost use Rattle.wf_parse_grammar.specs.Machine.{may_end, opens};
 ghost use Rattle.wf_parse_grammar.specs.Values.{perform};
 ghost use Rattle.wf_parse_nodes.specs.Makers.{nodes, IsSound, KeepsTexts, made};
 ghost use Rattle.wf_parse.specs.Machines.{size, state_of, AnswersBuild, AnswersToken, AnswersEnd, KeepsAt, Wanted, want_owes};
 
 use stacks::Stack;
+use wf_ast::parsed::Name;
 use wf_parse_grammar::table::{build, may_end, opens, owes, skips};
-use wf_parse_grammar::{Action, Build, Sym, Token, Want, Wants};
+use wf_parse_grammar::{Action, Build, Kind, Sym, Token, Want, Wants};
 use wf_parse_nodes::Maker;
 use wf_text::{NoMemory, Rule};
 
@@ -81,6 +85,55 @@ fn open_brackets(wants: &Stack<Want>) -> usize
         depth += 1;
     }
     open
+}
+
+/// What the table says to a token by which nothing is wanted in place of the symbol: true where the token is taken, false
+/// where it is left to what stands below. None where the table has to be asked, as it is for most of the rare ones.
+fn answer_at_once(symbol: Sym, kind: Kind) -> Option<bool>
+    ensures build { IfSome result (λ taken. (at : Place) → build symbol kind at ≡ (if taken then builds.Take [] else builds.Pass)) }
+    ensures closed { IfSome result (λ taken. (taken && opens kind) ≡ false) }
+{
+    match kind {
+        Kind::Dot => match symbol {
+            Sym::ADot => Some(true),
+            _ => None,
+        },
+        Kind::Colon => match symbol {
+            Sym::AColon => Some(true),
+            _ => None,
+        },
+        Kind::Equals => match symbol {
+            Sym::AnEquals => Some(true),
+            Sym::BoundsPart => Some(false),
+            _ => None,
+        },
+        Kind::Semicolon => match symbol {
+            Sym::ASemicolon => Some(true),
+            Sym::Rest | Sym::End | Sym::Links(_) | Sym::PathAtom | Sym::BoundsPart | Sym::Else =>
+                Some(false),
+            _ => None,
+        },
+        Kind::CloseRound => match symbol {
+            Sym::RightRound | Sym::Fields | Sym::MoreFields | Sym::Givens | Sym::MoreGivens =>
+                Some(true),
+            Sym::Rest | Sym::End | Sym::Links(_) | Sym::PathAtom | Sym::BoundsPart => Some(false),
+            _ => None,
+        },
+        Kind::CloseSquare => match symbol {
+            Sym::RightSquare => Some(true),
+            Sym::Rest | Sym::End | Sym::Links(_) | Sym::PathAtom => Some(false),
+            _ => None,
+        },
+        Kind::Comma | Kind::OpenCurly | Kind::CloseCurly => match symbol {
+            Sym::Rest | Sym::End | Sym::Links(_) | Sym::PathAtom | Sym::BoundsPart => Some(false),
+            _ => None,
+        },
+        Kind::Chain(_) | Kind::Binary(_) => match symbol {
+            Sym::PathAtom => Some(false),
+            _ => None,
+        },
+        _ => None,
+    }
 }
 
 impl Machine {
@@ -206,10 +259,10 @@ impl Machine {
         Ok(false)
     }
 
-    /// What the table says to the token where `symbol` stood on the top: true where the token is taken, false where
-    /// it is left to what stands below.
+    /// What the table says to the token where `symbol` stood on the top, by a list of what is wanted in its place: true
+    /// where the token is taken, false where it is left to what stands below.
     #[inline(never)]
-    fn read(&mut self, limited: bool, symbol: Sym, token: Token) -> Result<bool, StepFault>
+    fn read_list(&mut self, limited: bool, symbol: Sym, token: Token) -> Result<bool, StepFault>
         requires sound { IsSound self.old.maker }
         requires size { size self.old + 32 < 2 ^ 32 }
         ensures answers { AnswersBuild limited symbol token (build symbol token.kind token.at) (state_of self.old) (state_of self.new) result }
@@ -226,6 +279,76 @@ impl Machine {
             Build::Enter(wants) => self.enter(limited, symbol, token, wants),
             Build::Pass => self.pass(limited, symbol, token),
             Build::Stop(rule) => Err(StepFault::Refused(*rule)),
+        }
+    }
+
+    /// A name is taken, and put on the stack of values.
+    fn take_name(&mut self, limited: bool, token: Token, name: Name) -> Result<bool, StepFault>
+        requires sound { IsSound self.old.maker }
+        requires size { size self.old + 32 < 2 ^ 32 }
+        requires closed { opens token.kind ≡ false }
+        ensures answers { AnswersBuild limited syms.AName token (builds.Take (Make (does.PushName name) ∷ [])) (state_of self.old) (state_of self.new) result }
+        ensures ok { IfOk result (λ taken. taken ≡ true) }
+        ensures sound { OnOk result (IsSound self.new.maker) }
+        ensures texts { OnOk result (KeepsTexts self.old.maker.package self.new.maker.package) }
+        ensures refused { IfErr result (λ stop. KeepsAt stop self.old.maker.package self.new.maker.package) }
+        ensures size { OnOk result (size self.new ≤ size self.old + 32) }
+    {
+        self.make(Action::PushName(name))?;
+        Ok(true)
+    }
+
+    /// A name, where one is wanted.
+    fn read_name(&mut self, limited: bool, token: Token) -> Result<bool, StepFault>
+        requires sound { IsSound self.old.maker }
+        requires size { size self.old + 32 < 2 ^ 32 }
+        ensures answers { AnswersBuild limited syms.AName token (build syms.AName token.kind token.at) (state_of self.old) (state_of self.new) result }
+        ensures sound { OnOk result (IsSound self.new.maker) }
+        ensures texts { OnOk result (KeepsTexts self.old.maker.package self.new.maker.package) }
+        ensures refused { IfErr result (λ stop. KeepsAt stop self.old.maker.package self.new.maker.package) }
+        ensures below { IfOk result (λ taken. taken ≡ false → self.new.wants ≡ self.old.wants) }
+        ensures size { IfOk result (λ taken. size self.new ≤ size self.old + (if taken then 32 else 2)) }
+    {
+        match token.kind {
+            Kind::Name(text) => self.take_name(limited, token, Name { text, at: token.at }),
+            _ => Err(StepFault::Refused(Rule::S5)),
+        }
+    }
+
+    /// What the table says to the token where `symbol` stood on the top, any but a name: true where the token is taken,
+    /// false where it is left to what stands below.
+    fn read_symbol(&mut self, limited: bool, symbol: Sym, token: Token) -> Result<bool, StepFault>
+        requires sound { IsSound self.old.maker }
+        requires size { size self.old + 32 < 2 ^ 32 }
+        ensures answers { AnswersBuild limited symbol token (build symbol token.kind token.at) (state_of self.old) (state_of self.new) result }
+        ensures sound { OnOk result (IsSound self.new.maker) }
+        ensures texts { OnOk result (KeepsTexts self.old.maker.package self.new.maker.package) }
+        ensures refused { IfErr result (λ stop. KeepsAt stop self.old.maker.package self.new.maker.package) }
+        ensures below { IfOk result (λ taken. taken ≡ false → self.new.wants ≡ self.old.wants) }
+        ensures size { IfOk result (λ taken. size self.new ≤ size self.old + (if taken then 32 else 2)) }
+    {
+        match answer_at_once(symbol, token.kind) {
+            Some(true) => Ok(true),
+            Some(false) => self.pass(limited, symbol, token),
+            None => self.read_list(limited, symbol, token),
+        }
+    }
+
+    /// What the table says to the token where `symbol` stood on the top: true where the token is taken, false where
+    /// it is left to what stands below. Names and what is one token each come most often, and need no list.
+    fn read(&mut self, limited: bool, symbol: Sym, token: Token) -> Result<bool, StepFault>
+        requires sound { IsSound self.old.maker }
+        requires size { size self.old + 32 < 2 ^ 32 }
+        ensures answers { AnswersBuild limited symbol token (build symbol token.kind token.at) (state_of self.old) (state_of self.new) result }
+        ensures sound { OnOk result (IsSound self.new.maker) }
+        ensures texts { OnOk result (KeepsTexts self.old.maker.package self.new.maker.package) }
+        ensures refused { IfErr result (λ stop. KeepsAt stop self.old.maker.package self.new.maker.package) }
+        ensures below { IfOk result (λ taken. taken ≡ false → self.new.wants ≡ self.old.wants) }
+        ensures size { IfOk result (λ taken. size self.new ≤ size self.old + (if taken then 32 else 2)) }
+    {
+        match symbol {
+            Sym::AName => self.read_name(limited, token),
+            _ => self.read_symbol(limited, symbol, token),
         }
     }
 

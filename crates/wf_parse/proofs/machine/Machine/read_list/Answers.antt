@@ -3,7 +3,7 @@ use Rattle.wf_parse_grammar.specs.declared.builds.Build.{Build}
 use Rattle.wf_parse.specs.Machines.{wanted}
 use Rattle.wf_parse.proofs.Shortness.{few_wanted}
 use Rattle.wf_parse.proofs.Keeping.{taken_size}
-use Rattle.wf_parse.proofs.machine.Machine.read.Goals as goal
+use Rattle.wf_parse.proofs.machine.Machine.read_list.Goals as goal
 
 pub take-requires-clause-few : goal.take-requires-clause-few
 take-requires-clause-few c =
