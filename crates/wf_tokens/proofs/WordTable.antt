@@ -1,10 +1,10 @@
 -- The words by their first bytes: every word is found.
-use Rattle.std.proofs.Common.{◌≡◌, ◌≢◌, ◌∙◌, ap, ℕ, Bool, true, ◌&&◌, Option, Some, None, List, refl, sym, nat_eq, IfSome, IfNone}
+use Rattle.std.proofs.Common.{◌≡◌, ◌≢◌, ◌∙◌, ap, ℕ, Bool, true, false, ◌&&◌, Option, Some, None, List, drop, length, refl, sym, nat_eq, IfSome, IfNone}
 use Rattle.std.specs.List.{find, list_all}
 use Rattle.std.specs.Cmp.Lexicographic.{pointwise, same_text}
 use Rattle.wf_tokens.specs.declared.words.Word.{Word}
 use Rattle.wf_tokens.specs.declared.words.Word.TheVariants as word
-use Rattle.wf_tokens.specs.Words.{word_text, words_from}
+use Rattle.wf_tokens.specs.Words.{likely_word, word_text, words_from}
 use Rattle.wf_tokens.specs.Runs.{begins, first_byte, is_letter, is_run}
 use Rattle.wf_tokens.proofs.Tables.{found-passes}
 
@@ -55,6 +55,67 @@ word_back word.Yield = refl
 pub if_none : (text : List ℕ) (o : Option Word) → o ≡ found text → IfNone o ((word : Word) → text ≢ word_text word)
 if_none text None h = λ word e. let back : found text ≡ Some word = ap found e ∙ word_back word in absurd (cc (h, back))
 if_none text (Some word) h = tt
+
+-- The only word that a text can be.
+abbrev pub likely : List ℕ → Option Word
+likely text = likely_word (first_byte text) (first_byte (drop 1 text)) (first_byte (drop 2 text)) (length text)
+
+likely_back : (word : Word) → likely (word_text word) ≡ Some word
+likely_back word.And = refl
+likely_back word.Args = refl
+likely_back word.Array = refl
+likely_back word.As = refl
+likely_back word.Assert = refl
+likely_back word.Base = refl
+likely_back word.Break = refl
+likely_back word.Const = refl
+likely_back word.Continue = refl
+likely_back word.Else = refl
+likely_back word.Endwhile = refl
+likely_back word.False = refl
+likely_back word.Func = refl
+likely_back word.If = refl
+likely_back word.Inv = refl
+likely_back word.Not = refl
+likely_back word.Nothing = refl
+likely_back word.Ok = refl
+likely_back word.Or = refl
+likely_back word.Post = refl
+likely_back word.Pre = refl
+likely_back word.Pri = refl
+likely_back word.Pub = refl
+likely_back word.Return = refl
+likely_back word.Slice = refl
+likely_back word.Status = refl
+likely_back word.Struct = refl
+likely_back word.This = refl
+likely_back word.True = refl
+likely_back word.Var = refl
+likely_back word.Via = refl
+likely_back word.While = refl
+likely_back word.Yield = refl
+
+-- What is found is the likely word, and is written so.
+found_likely : (text : List ℕ) (o : Option Word) → o ≡ found text → IfSome o (λ word. likely text ≡ Some word)
+found_likely text None h = tt
+found_likely text (Some word) h = ap likely (if_found text (Some word) h) ∙ likely_back word
+
+found_written : (text : List ℕ) (o : Option Word) → o ≡ found text → IfSome o (λ word. pointwise nat_eq (word_text word) text ≡ true)
+found_written text None h = tt
+found_written text (Some word) h = found-passes (λ (w : Word). pointwise nat_eq (word_text w) text) (words_from (first_byte text)) word (sym h)
+
+-- Where the likely word isn't written so, none is found.
+pub unwritten_not_found : (text : List ℕ) (word : Word) → likely text ≡ Some word → pointwise nat_eq (word_text word) text ≡ false → None ≡ found text
+unwritten_not_found text word is unwritten = by_found (found text) refl
+  where
+    by_found : (o : Option Word) → o ≡ found text → None ≡ found text
+    by_found None h = h
+    by_found (Some other) h =
+        let l : likely text ≡ Some other = found_likely text (Some other) h in
+        let same : other ≡ word = cc (is, l) in
+        let w : pointwise nat_eq (word_text other) text ≡ true = found_written text (Some other) h in
+        let v : pointwise nat_eq (word_text word) text ≡ true = rw same at w in
+        absurd (cc (unwritten, v))
 
 -- A word is a run that begins with a letter.
 abbrev pub is_word_run : List ℕ → Bool

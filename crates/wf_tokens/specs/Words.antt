@@ -1,5 +1,5 @@
 -- The words of the language, as they are written.
-use Rattle.std.specs.Prelude.{ℕ, List, [], ◌∷◌, if◌then◌else◌, nat_eq, codes}
+use Rattle.std.specs.Prelude.{ℕ, Option, Some, None, List, [], ◌∷◌, if◌then◌else◌, nat_eq, codes}
 use Rattle.wf_tokens.specs.declared.words.Word.{Word}
 use Rattle.wf_tokens.specs.declared.words.Word.TheVariants as word
 
@@ -57,3 +57,23 @@ words_from byte =
     if nat_eq byte 119 then word.While ∷ [] else
     if nat_eq byte 121 then word.Yield ∷ [] else
     []
+
+-- The only word that a text can be which begins with these bytes and has so many.
+abbrev pub likely_word : (first second third len : ℕ) → Option Word
+likely_word first second third len =
+    if nat_eq first 97 then (if nat_eq len 2 then Some word.As else if nat_eq len 3 then Some word.And else if nat_eq len 4 then Some word.Args else if nat_eq len 5 then Some word.Array else Some word.Assert) else
+    if nat_eq first 98 then (if nat_eq len 4 then Some word.Base else Some word.Break) else
+    if nat_eq first 99 then (if nat_eq len 5 then Some word.Const else Some word.Continue) else
+    if nat_eq first 101 then (if nat_eq len 4 then Some word.Else else Some word.Endwhile) else
+    if nat_eq first 102 then (if nat_eq len 5 then Some word.False else Some word.Func) else
+    if nat_eq first 105 then (if nat_eq len 2 then Some word.If else Some word.Inv) else
+    if nat_eq first 110 then (if nat_eq len 3 then Some word.Not else Some word.Nothing) else
+    if nat_eq first 111 then (if nat_eq second 107 then Some word.Ok else Some word.Or) else
+    if nat_eq first 112 then (if nat_eq third 101 then Some word.Pre else if nat_eq third 105 then Some word.Pri else if nat_eq third 115 then Some word.Post else Some word.Pub) else
+    if nat_eq first 114 then Some word.Return else
+    if nat_eq first 115 then (if nat_eq third 97 then Some word.Status else if nat_eq third 105 then Some word.Slice else Some word.Struct) else
+    if nat_eq first 116 then (if nat_eq third 105 then Some word.This else Some word.True) else
+    if nat_eq first 118 then (if nat_eq third 114 then Some word.Var else Some word.Via) else
+    if nat_eq first 119 then Some word.While else
+    if nat_eq first 121 then Some word.Yield else
+    None

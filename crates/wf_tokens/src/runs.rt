@@ -42,6 +42,16 @@ pub(crate) fn first_byte(bytes: &[u8]) -> u8
     }
 }
 
+/// The byte at this place, and 0 where there is none.
+pub(crate) fn byte_at(bytes: &[u8], place: usize) -> u8
+    ensures { result ≡ first_byte (drop place bytes.now) }
+{
+    match bytes.get(place) {
+        Some(byte) => *byte,
+        None => 0,
+    }
+}
+
 /// Whether a quote stands at the front.
 pub(crate) fn begins_with_quote(bytes: &[u8]) -> bool
     ensures { result ≡ begins is_quote bytes.now }

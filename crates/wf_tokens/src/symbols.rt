@@ -1,6 +1,6 @@
 // The symbols of the language: brackets, punctuation, comparisons and operators, each also as an assignment.
 
-ghost use Rattle.std.specs.Prelude.{◌≡◌, drop, nat_eq, if◌then◌else◌, IfSome, IfNone, find};
+ghost use Rattle.std.specs.Prelude.{◌≡◌, nat_eq, if◌then◌else◌, IfSome, IfNone, find};
 ghost use Rattle.std.specs.List.{starts_with};
 ghost use Rattle.wf_tokens.specs.Runs.{first_byte};
 ghost use Rattle.wf_tokens.specs.declared.symbols.Operator.TheVariants as operator;
@@ -8,7 +8,7 @@ ghost use Rattle.wf_tokens.specs.declared.symbols.Comparison.TheVariants as comp
 ghost use Rattle.wf_tokens.specs.declared.symbols.Symbol.TheVariants as symbol;
 ghost use Rattle.wf_tokens.specs.Symbols.{operator_text, assign_text, comparison_text, symbol_text, symbols_from, IsLongestSymbol, BeginsNoSymbol};
 
-use crate::runs::first_byte;
+use crate::runs::{byte_at, first_byte};
 
 /// An operator that takes two numbers and gives a number. Each can stand directly before `=`, which
 /// makes an assignment of it.
@@ -291,16 +291,6 @@ fn greater_symbol(next: u8, after: u8) -> Symbol
         Symbol::Compare(Comparison::GreaterOrEqual)
     } else {
         Symbol::Compare(Comparison::Greater)
-    }
-}
-
-/// The byte at this place, and 0 where there is none.
-fn byte_at(bytes: &[u8], place: usize) -> u8
-    ensures { result ≡ first_byte (drop place bytes.now) }
-{
-    match bytes.get(place) {
-        Some(byte) => *byte,
-        None => 0,
     }
 }
 

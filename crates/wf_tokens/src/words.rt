@@ -3,9 +3,9 @@
 ghost use Rattle.std.specs.Prelude.{◌≡◌, ◌≢◌, nat_eq, IfSome, IfNone, find};
 ghost use Rattle.std.specs.Cmp.Lexicographic.{pointwise};
 ghost use Rattle.wf_tokens.specs.Runs.{first_byte};
-ghost use Rattle.wf_tokens.specs.Words.{word_text, words_from};
+ghost use Rattle.wf_tokens.specs.Words.{likely_word, word_text, words_from};
 
-use crate::runs::first_byte;
+use crate::runs::{byte_at, first_byte};
 
 /// A word of the language.
 #[derive(Clone, Copy)]
@@ -86,31 +86,73 @@ pub(crate) fn text_of_word(word: Word) -> &'static str
     }
 }
 
-/// The words that begin with this byte.
-fn words_from(byte: u8) -> &'static [Word]
-    ensures { result.now ≡ words_from byte }
+/// The only word that a text can be which begins with these bytes and has so many.
+fn likely_word(first: u8, second: u8, third: u8, len: usize) -> Option<Word>
+    ensures { result ≡ likely_word first second third len }
 {
-    match byte {
-        b'a' => &[Word::And, Word::Args, Word::Array, Word::As, Word::Assert],
-        b'b' => &[Word::Base, Word::Break],
-        b'c' => &[Word::Const, Word::Continue],
-        b'e' => &[Word::Else, Word::Endwhile],
-        b'f' => &[Word::False, Word::Func],
-        b'i' => &[Word::If, Word::Inv],
-        b'n' => &[Word::Not, Word::Nothing],
-        b'o' => &[Word::Ok, Word::Or],
-        b'p' => &[Word::Post, Word::Pre, Word::Pri, Word::Pub],
-        b'r' => &[Word::Return],
-        b's' => &[Word::Slice, Word::Status, Word::Struct],
-        b't' => &[Word::This, Word::True],
-        b'v' => &[Word::Var, Word::Via],
-        b'w' => &[Word::While],
-        b'y' => &[Word::Yield],
-        _ => &[],
+    match first {
+        b'a' => match len {
+            2 => Some(Word::As),
+            3 => Some(Word::And),
+            4 => Some(Word::Args),
+            5 => Some(Word::Array),
+            _ => Some(Word::Assert),
+        },
+        b'b' => match len {
+            4 => Some(Word::Base),
+            _ => Some(Word::Break),
+        },
+        b'c' => match len {
+            5 => Some(Word::Const),
+            _ => Some(Word::Continue),
+        },
+        b'e' => match len {
+            4 => Some(Word::Else),
+            _ => Some(Word::Endwhile),
+        },
+        b'f' => match len {
+            5 => Some(Word::False),
+            _ => Some(Word::Func),
+        },
+        b'i' => match len {
+            2 => Some(Word::If),
+            _ => Some(Word::Inv),
+        },
+        b'n' => match len {
+            3 => Some(Word::Not),
+            _ => Some(Word::Nothing),
+        },
+        b'o' => match second {
+            b'k' => Some(Word::Ok),
+            _ => Some(Word::Or),
+        },
+        b'p' => match third {
+            b'e' => Some(Word::Pre),
+            b'i' => Some(Word::Pri),
+            b's' => Some(Word::Post),
+            _ => Some(Word::Pub),
+        },
+        b'r' => Some(Word::Return),
+        b's' => match third {
+            b'a' => Some(Word::Status),
+            b'i' => Some(Word::Slice),
+            _ => Some(Word::Struct),
+        },
+        b't' => match third {
+            b'i' => Some(Word::This),
+            _ => Some(Word::True),
+        },
+        b'v' => match third {
+            b'r' => Some(Word::Var),
+            _ => Some(Word::Via),
+        },
+        b'w' => Some(Word::While),
+        b'y' => Some(Word::Yield),
+        _ => None,
     }
 }
 
-/// Whether the word is written so. Most words have another length, and then nothing more of them is looked at.
+/// Whether the word is written so. Mostly a name has another length than the word, and then no more of it is looked at.
 fn is_written(word: Word, text: &[u8]) -> bool
     ensures { result ≡ pointwise nat_eq (word_text word) text.now }
 {
@@ -121,14 +163,21 @@ fn is_written(word: Word, text: &[u8]) -> bool
     written == text
 }
 
-/// The word that is written so, looked for among those that begin with the first byte.
+/// The word that is written so: the only one that it can be, where that is written so.
 fn find_word(text: &[u8]) -> Option<Word>
     ensures { result ≡ find (λ word. pointwise nat_eq (word_text word) text.now) (words_from (first_byte text.now)) }
 {
-    words_from(first_byte(text))
-        .iter()
-        .copied()
-        .find(|word| is_written(*word, text))
+    let word = likely_word(
+        first_byte(text),
+        byte_at(text, 1),
+        byte_at(text, 2),
+        text.len(),
+    )?;
+    if is_written(word, text) {
+        Some(word)
+    } else {
+        None
+    }
 }
 
 /// The word that is written so, if one is.
