@@ -117,7 +117,7 @@ impl Maker {
     }
 
     /// Performs an action, whichever it is.
-    #[inline(never)]
+    #[inline(always)]
     fn perform_any(&mut self, action: Action) -> Result<(), NoMemory>
         requires sound { IsSound self.old }
         requires room { nodes self.old < 2 ^ 32 }
