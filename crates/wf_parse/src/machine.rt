@@ -282,19 +282,97 @@ impl Machine {
         }
     }
 
-    /// A name is taken, and put on the stack of values.
-    fn take_name(&mut self, limited: bool, token: Token, name: Name) -> Result<bool, StepFault>
+    /// A token is taken that opens no bracket, and this is made of it.
+    fn take_made(
+        &mut self,
+        limited: bool,
+        symbol: Sym,
+        token: Token,
+        action: Action,
+    ) -> Result<bool, StepFault>
         requires sound { IsSound self.old.maker }
         requires size { size self.old + 32 < 2 ^ 32 }
         requires closed { opens token.kind ≡ false }
-        ensures answers { AnswersBuild limited syms.AName token (builds.Take (Make (does.PushName name) ∷ [])) (state_of self.old) (state_of self.new) result }
+        ensures answers { AnswersBuild limited symbol token (builds.Take (Make action ∷ [])) (state_of self.old) (state_of self.new) result }
         ensures ok { IfOk result (λ taken. taken ≡ true) }
         ensures sound { OnOk result (IsSound self.new.maker) }
         ensures texts { OnOk result (KeepsTexts self.old.maker.package self.new.maker.package) }
         ensures refused { IfErr result (λ stop. KeepsAt stop self.old.maker.package self.new.maker.package) }
         ensures size { OnOk result (size self.new ≤ size self.old + 32) }
     {
-        self.make(Action::PushName(name))?;
+        self.make(action)?;
+        Ok(true)
+    }
+
+    /// The same, and `next` is wanted then.
+    fn take_before(
+        &mut self,
+        limited: bool,
+        symbol: Sym,
+        token: Token,
+        action: Action,
+        next: Sym,
+    ) -> Result<bool, StepFault>
+        requires sound { IsSound self.old.maker }
+        requires size { size self.old + 32 < 2 ^ 32 }
+        requires closed { opens token.kind ≡ false }
+        ensures answers { AnswersBuild limited symbol token (builds.Take (Make action ∷ Read next ∷ [])) (state_of self.old) (state_of self.new) result }
+        ensures ok { IfOk result (λ taken. taken ≡ true) }
+        ensures sound { OnOk result (IsSound self.new.maker) }
+        ensures texts { OnOk result (KeepsTexts self.old.maker.package self.new.maker.package) }
+        ensures refused { IfErr result (λ stop. KeepsAt stop self.old.maker.package self.new.maker.package) }
+        ensures size { OnOk result (size self.new ≤ size self.old + 32) }
+    {
+        self.make(action)?;
+        self.wants.push(Want::Read(next))?;
+        Ok(true)
+    }
+
+    /// The same, and `after` is wanted after `next`.
+    fn take_before_two(
+        &mut self,
+        limited: bool,
+        symbol: Sym,
+        token: Token,
+        action: Action,
+        next: Sym,
+        after: Sym,
+    ) -> Result<bool, StepFault>
+        requires sound { IsSound self.old.maker }
+        requires size { size self.old + 32 < 2 ^ 32 }
+        requires closed { opens token.kind ≡ false }
+        ensures answers { AnswersBuild limited symbol token (builds.Take (Make action ∷ Read next ∷ Read after ∷ [])) (state_of self.old) (state_of self.new) result }
+        ensures ok { IfOk result (λ taken. taken ≡ true) }
+        ensures sound { OnOk result (IsSound self.new.maker) }
+        ensures texts { OnOk result (KeepsTexts self.old.maker.package self.new.maker.package) }
+        ensures refused { IfErr result (λ stop. KeepsAt stop self.old.maker.package self.new.maker.package) }
+        ensures size { OnOk result (size self.new ≤ size self.old + 32) }
+    {
+        self.make(action)?;
+        self.wants.push(Want::Read(after))?;
+        self.wants.push(Want::Read(next))?;
+        Ok(true)
+    }
+
+    /// A token is taken that opens no bracket, and `next` is wanted then.
+    fn take_for(
+        &mut self,
+        limited: bool,
+        symbol: Sym,
+        token: Token,
+        next: Sym,
+    ) -> Result<bool, StepFault>
+        requires sound { IsSound self.old.maker }
+        requires size { size self.old + 32 < 2 ^ 32 }
+        requires closed { opens token.kind ≡ false }
+        ensures answers { AnswersBuild limited symbol token (builds.Take (Read next ∷ [])) (state_of self.old) (state_of self.new) result }
+        ensures ok { IfOk result (λ taken. taken ≡ true) }
+        ensures sound { OnOk result (IsSound self.new.maker) }
+        ensures texts { OnOk result (KeepsTexts self.old.maker.package self.new.maker.package) }
+        ensures refused { IfErr result (λ stop. KeepsAt stop self.old.maker.package self.new.maker.package) }
+        ensures size { OnOk result (size self.new ≤ size self.old + 32) }
+    {
+        self.wants.push(Want::Read(next))?;
         Ok(true)
     }
 
@@ -310,13 +388,123 @@ impl Machine {
         ensures size { IfOk result (λ taken. size self.new ≤ size self.old + (if taken then 32 else 2)) }
     {
         match token.kind {
-            Kind::Name(text) => self.take_name(limited, token, Name { text, at: token.at }),
+            Kind::Name(text) => self.take_made(
+                limited,
+                Sym::AName,
+                token,
+                Action::PushName(Name { text, at: token.at }),
+            ),
             _ => Err(StepFault::Refused(Rule::S5)),
         }
     }
 
-    /// What the table says to the token where `symbol` stood on the top, any but a name: true where the token is taken,
-    /// false where it is left to what stands below.
+    /// An operand. Most are a number or begin with a name.
+    fn read_operand(&mut self, limited: bool, token: Token) -> Result<bool, StepFault>
+        requires sound { IsSound self.old.maker }
+        requires size { size self.old + 32 < 2 ^ 32 }
+        ensures answers { AnswersBuild limited syms.Operand token (build syms.Operand token.kind token.at) (state_of self.old) (state_of self.new) result }
+        ensures sound { OnOk result (IsSound self.new.maker) }
+        ensures texts { OnOk result (KeepsTexts self.old.maker.package self.new.maker.package) }
+        ensures refused { IfErr result (λ stop. KeepsAt stop self.old.maker.package self.new.maker.package) }
+        ensures below { IfOk result (λ taken. taken ≡ false → self.new.wants ≡ self.old.wants) }
+        ensures size { IfOk result (λ taken. size self.new ≤ size self.old + (if taken then 32 else 2)) }
+    {
+        match token.kind {
+            Kind::Number(value) => self.take_made(
+                limited,
+                Sym::Operand,
+                token,
+                Action::NumberExpr {
+                    value,
+                    at: token.at,
+                },
+            ),
+            Kind::Name(text) => self.take_before(
+                limited,
+                Sym::Operand,
+                token,
+                Action::BarePath(Name { text, at: token.at }),
+                Sym::PathAtom,
+            ),
+            _ => self.read_list(limited, Sym::Operand, token),
+        }
+    }
+
+    /// An expression. Most begin with a number or a name.
+    fn read_expr(&mut self, limited: bool, token: Token) -> Result<bool, StepFault>
+        requires sound { IsSound self.old.maker }
+        requires size { size self.old + 32 < 2 ^ 32 }
+        ensures answers { AnswersBuild limited syms.Expr token (build syms.Expr token.kind token.at) (state_of self.old) (state_of self.new) result }
+        ensures sound { OnOk result (IsSound self.new.maker) }
+        ensures texts { OnOk result (KeepsTexts self.old.maker.package self.new.maker.package) }
+        ensures refused { IfErr result (λ stop. KeepsAt stop self.old.maker.package self.new.maker.package) }
+        ensures below { IfOk result (λ taken. taken ≡ false → self.new.wants ≡ self.old.wants) }
+        ensures size { IfOk result (λ taken. size self.new ≤ size self.old + (if taken then 32 else 2)) }
+    {
+        match token.kind {
+            Kind::Number(value) => self.take_before(
+                limited,
+                Sym::Expr,
+                token,
+                Action::NumberExpr {
+                    value,
+                    at: token.at,
+                },
+                Sym::Rest,
+            ),
+            Kind::Name(text) => self.take_before_two(
+                limited,
+                Sym::Expr,
+                token,
+                Action::BarePath(Name { text, at: token.at }),
+                Sym::PathAtom,
+                Sym::Rest,
+            ),
+            _ => self.read_list(limited, Sym::Expr, token),
+        }
+    }
+
+    /// A statement, or the `}` of its block.
+    fn read_items(&mut self, limited: bool, token: Token) -> Result<bool, StepFault>
+        requires sound { IsSound self.old.maker }
+        requires size { size self.old + 32 < 2 ^ 32 }
+        ensures answers { AnswersBuild limited syms.Items token (build syms.Items token.kind token.at) (state_of self.old) (state_of self.new) result }
+        ensures sound { OnOk result (IsSound self.new.maker) }
+        ensures texts { OnOk result (KeepsTexts self.old.maker.package self.new.maker.package) }
+        ensures refused { IfErr result (λ stop. KeepsAt stop self.old.maker.package self.new.maker.package) }
+        ensures below { IfOk result (λ taken. taken ≡ false → self.new.wants ≡ self.old.wants) }
+        ensures size { IfOk result (λ taken. size self.new ≤ size self.old + (if taken then 32 else 2)) }
+    {
+        match token.kind {
+            Kind::CloseCurly => {
+                self.take_made(limited, Sym::Items, token, Action::CloseBlock(token.at))
+            }
+            _ => self.read_list(limited, Sym::Items, token),
+        }
+    }
+
+    /// What follows a statement.
+    fn read_more_items(&mut self, limited: bool, token: Token) -> Result<bool, StepFault>
+        requires sound { IsSound self.old.maker }
+        requires size { size self.old + 32 < 2 ^ 32 }
+        ensures answers { AnswersBuild limited syms.MoreItems token (build syms.MoreItems token.kind token.at) (state_of self.old) (state_of self.new) result }
+        ensures sound { OnOk result (IsSound self.new.maker) }
+        ensures texts { OnOk result (KeepsTexts self.old.maker.package self.new.maker.package) }
+        ensures refused { IfErr result (λ stop. KeepsAt stop self.old.maker.package self.new.maker.package) }
+        ensures below { IfOk result (λ taken. taken ≡ false → self.new.wants ≡ self.old.wants) }
+        ensures size { IfOk result (λ taken. size self.new ≤ size self.old + (if taken then 32 else 2)) }
+    {
+        match token.kind {
+            Kind::Semicolon => self.take_for(limited, Sym::MoreItems, token, Sym::Items),
+            Kind::CloseCurly => {
+                self.take_made(limited, Sym::MoreItems, token, Action::CloseBlock(token.at))
+            }
+            _ => Err(StepFault::Refused(Rule::S5)),
+        }
+    }
+
+    /// What the table says to the token where `symbol` stood on the top: true where the token is taken, false where
+    /// it is left to what stands below. What is one token and asks for nothing more needs no list.
     fn read_symbol(&mut self, limited: bool, symbol: Sym, token: Token) -> Result<bool, StepFault>
         requires sound { IsSound self.old.maker }
         requires size { size self.old + 32 < 2 ^ 32 }
@@ -335,7 +523,8 @@ impl Machine {
     }
 
     /// What the table says to the token where `symbol` stood on the top: true where the token is taken, false where
-    /// it is left to what stands below. Names and what is one token each come most often, and need no list.
+    /// it is left to what stands below. Those that come most often have each a way of their own, on which no list is handed
+    /// on.
     fn read(&mut self, limited: bool, symbol: Sym, token: Token) -> Result<bool, StepFault>
         requires sound { IsSound self.old.maker }
         requires size { size self.old + 32 < 2 ^ 32 }
@@ -348,6 +537,10 @@ impl Machine {
     {
         match symbol {
             Sym::AName => self.read_name(limited, token),
+            Sym::Operand => self.read_operand(limited, token),
+            Sym::Expr => self.read_expr(limited, token),
+            Sym::Items => self.read_items(limited, token),
+            Sym::MoreItems => self.read_more_items(limited, token),
             _ => self.read_symbol(limited, symbol, token),
         }
     }

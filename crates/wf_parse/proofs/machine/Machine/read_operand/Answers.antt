@@ -1,0 +1,21 @@
+use Rattle.std.proofs.Common.{◌≡◌, [], ◌∷◌, ap, subst, sym}
+use Rattle.wf_parse_grammar.specs.declared.builds.Build.{Build}
+use Rattle.wf_parse_grammar.specs.declared.builds.Build.TheVariants as builds
+use Rattle.wf_parse_grammar.specs.declared.symbols.Action.TheVariants as does
+use Rattle.wf_parse_grammar.specs.declared.symbols.Sym.TheVariants as syms
+use Rattle.wf_parse_grammar.specs.declared.symbols.Want.TheVariants.{Make, Read}
+use Rattle.wf_parse_grammar.specs.Building.{build}
+use Rattle.wf_parse.specs.Machines.{state_of, AnswersBuild}
+use Rattle.wf_parse.proofs.machine.Machine.read_operand.Goals as goal
+
+pub returns-in-Number-clause-answers : goal.returns-in-Number-clause-answers
+returns-in-Number-clause-answers c =
+    let is : build syms.Operand c.args.token.kind c.args.token.at ≡ builds.Take (Make (does.NumberExpr c.in-Number.value c.args.token.at) ∷ []) = ap (λ kind. build syms.Operand kind c.args.token.at) c.in-Number.is in
+    let P : Build → Type 0 = λ b. AnswersBuild c.args.limited syms.Operand c.args.token b (state_of c.args.self.now) (state_of c.take_made.new.self) c.take_made.result in
+    subst P (sym is) c.take_made.ensures.answers
+
+pub returns-in-Name-clause-answers : goal.returns-in-Name-clause-answers
+returns-in-Name-clause-answers c =
+    let is : build syms.Operand c.args.token.kind c.args.token.at ≡ builds.Take (Make (does.BarePath (record { text = c.in-Name.text; at = c.args.token.at })) ∷ Read syms.PathAtom ∷ []) = ap (λ kind. build syms.Operand kind c.args.token.at) c.in-Name.is in
+    let P : Build → Type 0 = λ b. AnswersBuild c.args.limited syms.Operand c.args.token b (state_of c.args.self.now) (state_of c.take_before.new.self) c.take_before.result in
+    subst P (sym is) c.take_before.ensures.answers
