@@ -18,11 +18,15 @@ pub(crate) fn is_digit(byte: u8) -> bool
     matches!(byte, b'0'..=b'9')
 }
 
-/// A byte of names, words and numbers.
+/// A byte of names, words and numbers. Most are small letters, which two comparisons tell.
 pub(crate) fn is_run(byte: u8) -> bool
     ensures { result ≡ is_run byte }
 {
-    is_letter(byte) || is_digit(byte)
+    if b'a' <= byte {
+        byte <= b'z'
+    } else {
+        is_letter(byte) || is_digit(byte)
+    }
 }
 
 /// A byte that may stand inside a text.
