@@ -5,7 +5,7 @@ ghost use Rattle.wf_ast.specs.TypedTrees.{operator_kind};
 ghost use Rattle.wf_named.specs.NamedTree as tree;
 ghost use Rattle.wf_types_rules.specs.declared.meanings.Meaning.TheVariants as meanings;
 ghost use Rattle.wf_types_rules.specs.Meanings.{is_flag as means_flag};
-ghost use Rattle.wf_types_rules.specs.Operands.{meaning_of_operator as operator_means, not_taken as first_untaken, not_fitting as first_unfit, has_no_value as lacks_value};
+ghost use Rattle.wf_types_rules.specs.Operands.{meaning_of_operator as operator_means};
 ghost use Rattle.wf_types_rules.specs.ExprTypes.{only_where, meaning, element_of, slice_in, if_number as only_for_number, converted as converts, answer_inside};
 ghost use Rattle.wf_named.specs.NamedTrees.{call_at};
 ghost use Rattle.wf_types_rules.specs.Judgements as judgements;
@@ -31,10 +31,8 @@ use wf_types_meanings::values::{
     may_be_handed, slice_in as slice, slices, takes,
 };
 use wf_types_meanings::variables::{typed, variable};
-use wf_types_operators::fitting::not_fitting;
-use wf_types_operators::given::{has_no_value, meaning_of_operator};
+use wf_types_operators::given::{Answer, answer_of, meaning_of_operator};
 use wf_types_operators::meanings::{greatest, is_flag, is_number, is_value};
-use wf_types_operators::taken::not_taken;
 use wf_types_rules::{Around, Meaning, Operand, PlacedMeaning};
 
 fn wrong_number(v: PlacedMeaning) -> Option<Place>
@@ -175,24 +173,6 @@ pub(crate) fn judged_slice(found: &mut Found, base: PlacedMeaning, ends: Ends) -
     slice_meaning(base.of, ends.from, ends.to)
 }
 
-fn wrong_operand_in_chain(op: Op, os: &[Operand]) -> Option<Place>
-    ensures { result ≡ first_untaken (operator_kind op) os.now }
-{
-    not_taken(op, os)
-}
-
-fn node_without_value_in_chain(op: Op, os: &[Operand], at: Place) -> Option<Place>
-    ensures { result ≡ at_place_if (lacks_value (operator_kind op) os.now) at }
-{
-    at_if(has_no_value(op, os), at)
-}
-
-fn unfit_operand(op: Op, os: &[Operand]) -> Option<Place>
-    ensures { result ≡ first_unfit (operator_kind op) os.now }
-{
-    not_fitting(op, os)
-}
-
 /// What a chain means, where each of its operands means something.
 pub fn chain_meaning(op: Op, operands: &Option<Sequence<Operand>>) -> Option<Meaning>
     ensures { result ≡ option_and_then (operator_means (operator_kind op)) operands.now }
@@ -201,12 +181,34 @@ pub fn chain_meaning(op: Op, operands: &Option<Sequence<Operand>>) -> Option<Mea
     meaning_of_operator(op, operands.as_slice())
 }
 
-fn tell_chain(found: &mut Found, op: Op, os: &[Operand], at: Place)
-    ensures { found.new ≡ chain_found (operator_kind op) (Some os.now) at found.old }
+fn wrong_operand_in_chain(answer: Answer) -> Option<Place>
+    ensures { result ≡ answer.untaken }
 {
-    found.tell(Rule::T1, wrong_operand_in_chain(op, os));
-    found.tell(Rule::T5, node_without_value_in_chain(op, os, at));
-    found.tell(Rule::T5, unfit_operand(op, os));
+    answer.untaken
+}
+
+fn node_without_value_in_chain(answer: Answer, at: Place) -> Option<Place>
+    ensures { result ≡ at_place_if answer.has_no_value at }
+{
+    at_if(answer.has_no_value, at)
+}
+
+fn unfit_operand(answer: Answer) -> Option<Place>
+    ensures { result ≡ answer.unfit }
+{
+    answer.unfit
+}
+
+// Operands of which each means something, judged at once.
+fn judged_operands(found: &mut Found, op: Op, os: &[Operand], at: Place) -> Option<Meaning>
+    ensures found { found.new ≡ chain_found (operator_kind op) (Some os.now) at found.old }
+    ensures of { result ≡ operator_means (operator_kind op) os.now }
+{
+    let answer = answer_of(op, os);
+    found.tell(Rule::T1, wrong_operand_in_chain(answer));
+    found.tell(Rule::T5, node_without_value_in_chain(answer, at));
+    found.tell(Rule::T5, unfit_operand(answer));
+    answer.of
 }
 
 /// A chain of operands, where each means something.
@@ -219,10 +221,10 @@ pub(crate) fn judged_chain(
     ensures found { found.new ≡ chain_found (operator_kind op) operands.now at found.old }
     ensures of { result ≡ option_and_then (operator_means (operator_kind op)) operands.now }
 {
-    if let Some(os) = operands {
-        tell_chain(found, op, os.as_slice(), at);
+    match operands {
+        Some(os) => judged_operands(found, op, os.as_slice(), at),
+        None => None,
     }
-    chain_meaning(op, operands)
 }
 
 fn is_cut(of: Option<Meaning>, width: Option<Width>) -> bool

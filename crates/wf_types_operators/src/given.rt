@@ -2,7 +2,7 @@
 
 ghost use Rattle.std.specs.Prelude.{◌≡◌};
 ghost use Rattle.wf_ast.specs.TypedTrees.{operator_kind};
-ghost use Rattle.wf_types_rules.specs.Operands.{left_width as width_on_the_left, are_taken as takes_all, constant_of as constant_with, number_in as number_with, constants_in, given as gives, meaning_of_operator as meaning_given, has_no_value as lacks_value};
+ghost use Rattle.wf_types_rules.specs.Operands.{left_width as width_on_the_left, are_taken as takes_all, constant_of as constant_with, number_in as number_with, constants_in, given as gives, meaning_of_operator as meaning_given, has_no_value as lacks_value, not_taken as first_untaken, not_fitting as first_unfit};
 ghost use Rattle.wf_types_operators.specs.Working.{width_by, computed_by};
 
 use crate::fitting::{common_width, not_fitting};
@@ -11,6 +11,7 @@ use crate::taken::not_taken;
 use crate::values::{are_constants, constant_value};
 use wf_ast::{Op, Ty};
 use wf_base::Width;
+use wf_text::Place;
 use wf_types_rules::{Meaning, Operand};
 
 // The width of the operand on the left.
@@ -130,9 +131,42 @@ pub fn meaning_of_operator(op: Op, os: &[Operand]) -> Option<Meaning>
     }
 }
 
-/// Whether the operands are taken and constant, and yet there is no value.
-pub fn has_no_value(op: Op, os: &[Operand]) -> bool
-    ensures { result ≡ lacks_value (operator_kind op) os.now }
+/// What an operator makes of operands.
+#[derive(Clone, Copy)]
+pub struct Answer {
+    /// The place of the first operand that it doesn't take.
+    pub untaken: Option<Place>,
+    /// The place of the first constant that doesn't fit the operands beside it.
+    pub unfit: Option<Place>,
+    /// Whether the operands are taken and constant, and yet there is no value.
+    pub has_no_value: bool,
+    /// What it gives, None where it doesn't take its operands or has no value.
+    pub of: Option<Meaning>,
+}
+
+/// What an operator makes of operands, worked out once. Takes time in proportion to the operands.
+pub fn answer_of(op: Op, os: &[Operand]) -> Answer
+    ensures untaken { result.untaken ≡ first_untaken (operator_kind op) os.now }
+    ensures unfit { result.unfit ≡ first_unfit (operator_kind op) os.now }
+    ensures has_no_value { result.has_no_value ≡ lacks_value (operator_kind op) os.now }
+    ensures of { result.of ≡ meaning_given (operator_kind op) os.now }
 {
-    are_taken(op, os) && given(op, os).is_none()
+    let untaken = not_taken(op, os);
+    let unfit = not_fitting(op, os);
+    if untaken.is_none() && unfit.is_none() {
+        let of = given(op, os);
+        Answer {
+            untaken,
+            unfit,
+            has_no_value: of.is_none(),
+            of,
+        }
+    } else {
+        Answer {
+            untaken,
+            unfit,
+            has_no_value: false,
+            of: None,
+        }
+    }
 }
