@@ -11,18 +11,18 @@ use Rattle.wf_ast.specs.declared.types.Ty.{Ty}
 use Rattle.wf_ast.specs.TypedTrees.{operator_kind}
 use Rattle.wf_named.specs.declared.nodes.NamedCallee.{NamedCallee}
 use Rattle.wf_named.specs.declared.nodes.NamedPath.{NamedPath}
-use Rattle.wf_named.specs.NamedTree.{NamedExprTree, number, status, truth, path, index, slice, chain, convert, negation, NamedPartTree, NamedLinkTrees, NamedArgTrees, NamedCallTree, call, NamedTypeTree}
+use Rattle.wf_named.specs.NamedTree.{NamedExprTree, number, status, truth, path, index, slice, chain, convert, negation, NamedPartTree, NamedLinkTrees, no_link, link, NamedArgTrees, NamedCallTree, call, NamedTypeTree}
 use Rattle.wf_types_rules.specs.declared.meanings.Operand.{Operand}
 use Rattle.wf_types_rules.specs.declared.meanings.PlacedMeaning.{PlacedMeaning}
 use Rattle.wf_types_rules.specs.declared.settings.Role.TheVariants as roles
 use Rattle.wf_types_rules.specs.declared.settings.Setting.{Setting}
 use Rattle.wf_types_rules.specs.ExprTypes.{plain_width, operands}
-use Rattle.wf_types_rules.specs.Judgements.{value_of, base_value, end_value, no_flag, no_value, no_index, no_slice, wanted, meaning_of_argument, argument_value, is_argument}
+use Rattle.wf_types_rules.specs.Judgements.{value_of, base_value, end_value, no_flag, no_value, no_index, no_slice, wanted, meaning_of_argument, argument_value, is_argument, two_operands}
 use Rattle.wf_types_rules.specs.Parts.{expression, calling, argument, placed_type, expr_parts, end_parts, links_parts, args_parts, type_parts}
 use Rattle.wf_types_exprs.specs.Judged.{judged, argument_parts}
 use Rattle.wf_types_exprs.specs.Found.{chain_found, conversion_found, argument_found, calling_found}
 use Rattle.wf_types_exprs.specs.Paths.{path_in}
-use Rattle.wf_types_exprs.proofs.JudgedLaws.{judged-append, judged-last}
+use Rattle.wf_types_exprs.proofs.JudgedLaws.{judged-none, judged-append, judged-last}
 use Rattle.wf_types_exprs.proofs.ListLemmas.{path_of_expr, value_of_argument, parts_of_argument}
 
 -- Literals, statuses and paths.
@@ -64,6 +64,17 @@ pub chain_judged : (s : Setting) (found before : Option Refusal) (op : Op) (firs
 unfolding judged
 chain_judged s found before op first links at os same e =
     rw same (ap (λ f. judged s f (expression (chain op first links at) ∷ [])) e ∙ judged-last s found (expression (chain op first links at)) (expr_parts first ++ links_parts links))
+
+pub pair_judged : (s : Setting) (found mid before : Option Refusal) (op : Op) (first second : NamedExprTree) (sign at : Place) (a b : PlacedMeaning) → a ≡ value_of s first → b ≡ value_of s second
+    → mid ≡ judged s found (expr_parts first) → before ≡ judged s mid (expr_parts second)
+    → chain_found (operator_kind op) (two_operands a b) at before ≡ judged s found (expr_parts (chain op first (link sign second no_link) at))
+pair_judged s found mid before op first second sign at a b left right g h =
+    let links = link sign second no_link in
+    let all : before ≡ judged s found (expr_parts first ++ links_parts links) =
+    h ∙ ap (λ f. judged s f (expr_parts second)) g ∙ judged-none s (judged s (judged s found (expr_parts first)) (expr_parts second))
+    ∙ sym (judged-append s (judged s found (expr_parts first)) (expr_parts second) []) ∙ sym (judged-append s found (expr_parts first) (expr_parts second ++ [])) in
+    let os : two_operands a b ≡ operands s first links = ap (λ v. two_operands v b) left ∙ ap (two_operands (value_of s first)) right in
+    chain_judged s found before op first links at (two_operands a b) os all
 
 -- A conversion.
 pub conversion_judged : (s : Setting) (found before : Option Refusal) (e : NamedExprTree) (t : NamedTypeTree) (at : Place) (v : PlacedMeaning) (plain : Option Width) → v ≡ value_of s e → plain ≡ plain_width t

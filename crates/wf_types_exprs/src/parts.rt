@@ -9,7 +9,7 @@ ghost use Rattle.wf_types_rules.specs.Operands.{meaning_of_operator as operator_
 ghost use Rattle.wf_types_rules.specs.ExprTypes.{only_where, meaning, element_of, slice_in, if_number as only_for_number, converted as converts, answer_inside};
 ghost use Rattle.wf_named.specs.NamedTrees.{call_at};
 ghost use Rattle.wf_types_rules.specs.Judgements as judgements;
-ghost use Rattle.wf_types_rules.specs.Judgements.{at_if as at_place_if, fails, both_fail, takes as takes_value, may_be_handed as may_hand, is_argument as fits_argument, answer_type as type_answered};
+ghost use Rattle.wf_types_rules.specs.Judgements.{at_if as at_place_if, fails, both_fail, takes as takes_value, may_be_handed as may_hand, is_argument as fits_argument, answer_type as type_answered, two_operands};
 ghost use Rattle.wf_types_rules.specs.Parts as parts;
 ghost use Rattle.wf_text.specs.Precedence.{told as told_by};
 ghost use Rattle.wf_text.specs.Precedence.{sooner as sooner_of};
@@ -224,6 +224,37 @@ pub(crate) fn judged_chain(
     match operands {
         Some(os) => judged_operands(found, op, os.as_slice(), at),
         None => None,
+    }
+}
+
+/// A chain of two operands, where each means something.
+pub(crate) fn judged_pair(
+    found: &mut Found,
+    op: Op,
+    a: PlacedMeaning,
+    b: PlacedMeaning,
+    at: Place,
+) -> Option<Meaning>
+    ensures found { found.new ≡ chain_found (operator_kind op) (two_operands a b) at found.old }
+    ensures of { result ≡ option_and_then (operator_means (operator_kind op)) (two_operands a b) }
+{
+    match (a.of, b.of) {
+        (Some(first), Some(second)) => {
+            let os = [
+                Operand {
+                    at: a.at,
+                    of: first,
+                },
+                Operand {
+                    at: b.at,
+                    of: second,
+                },
+            ];
+            judged_operands(found, op, os.as_slice(), at)
+        }
+        (None, Some(_)) => None,
+        (Some(_), None) => None,
+        (None, None) => None,
     }
 }
 

@@ -1,7 +1,7 @@
 // The walk over expressions, types and calls: the first refusal of what was found before and of all that the rules say of
 // their parts, and what they mean. Parts come before their whole.
 
-ghost use Rattle.std.specs.Prelude.{◌≡◌, ◌<◌, ◌∷◌, ◌++◌, Some, length, IfOk, OnOk};
+ghost use Rattle.std.specs.Prelude.{◌≡◌, ◌<◌, [], ◌∷◌, ◌++◌, Some, length, IfOk, OnOk};
 ghost use Rattle.std.specs.List.{AllByRecursion};
 ghost use Rattle.wf_ast.specs.ParsedParts.{IsBelow, LinksBelow, PrefixBelow, BoundsBelow};
 ghost use Rattle.wf_named.specs.NamedParts.{exprs_of, ArgsBelow, NamedTypeBelow};
@@ -18,14 +18,14 @@ use crate::here::Here;
 use crate::operands::{all_fit, bound, operand_behind};
 use crate::parts::{
     base_value, inner_answer, judged_argument, judged_chain, judged_conversion, judged_index,
-    judged_negation, judged_path, judged_slice, tell_calling,
+    judged_negation, judged_pair, judged_path, judged_slice, tell_calling,
 };
 use crate::reading::{as_path, names_others, place_of};
 use crate::types::{
     tell_place, written_array, written_plain, written_refined, written_slice, written_struct,
 };
 use wf_ast::parsed::{Bounds, Link, Prefix};
-use wf_ast::{ExprId, Sequence, Ty};
+use wf_ast::{ExprId, Op, Sequence, Ty};
 use wf_named::{BaseType, NamedCall, NamedCallee, NamedCore, NamedExpr, NamedType};
 use wf_text::Place;
 use wf_text::faults::NoMemory;
@@ -68,8 +68,7 @@ pub(crate) fn judge_expr(
             Ok(inner_answer(here.around, call))
         }
         NamedExpr::Chain { op, first, links } => {
-            let operands = judge_operands(here, found, *first, links.as_slice())?;
-            Ok(judged_chain(found, &operands, *op, node.at))
+            judge_chain(here, found, *op, *first, links.as_slice(), node.at)
         }
         NamedExpr::Convert { of, to } => {
             let of = judge_conversion(here, found, *of, to)?;
@@ -133,6 +132,50 @@ fn judge_ends(
     let from = judge_end(here, found, from)?;
     let to = judge_end(here, found, to)?;
     Ok(Ends { from, to })
+}
+
+// A chain of operands. One of two needs no list of them.
+#[cycle(judge_exprs)]
+fn judge_chain(
+    here: &Here<'_>,
+    found: &mut Found,
+    op: Op,
+    first: ExprId,
+    links: &[Link],
+    at: Place,
+) -> Result<Option<Meaning>, NoMemory>
+    requires first { first.0 < length here.now.nodes.now.exprs }
+    requires links { LinksBelow (length here.now.nodes.now.exprs) links.now }
+    ensures found { OnOk result (found.new ≡ judged here.now.around.now found.old (expr_parts (tree.chain op (expr_at (exprs_of here.now.nodes.now) first) (links_at (exprs_of here.now.nodes.now) links.now) at))) }
+    ensures of { IfOk result (λ m. m ≡ meaning here.now.around.now (tree.chain op (expr_at (exprs_of here.now.nodes.now) first) (links_at (exprs_of here.now.nodes.now) links.now) at)) }
+{
+    match links {
+        [link] => judge_pair(here, found, op, first, *link, at),
+        _ => {
+            let operands = judge_operands(here, found, first, links)?;
+            Ok(judged_chain(found, &operands, op, at))
+        }
+    }
+}
+
+// A chain of two operands.
+#[cycle(judge_exprs)]
+fn judge_pair(
+    here: &Here<'_>,
+    found: &mut Found,
+    op: Op,
+    first: ExprId,
+    link: Link,
+    at: Place,
+) -> Result<Option<Meaning>, NoMemory>
+    requires first { first.0 < length here.now.nodes.now.exprs }
+    requires link { link.operand.0 < length here.now.nodes.now.exprs }
+    ensures found { OnOk result (found.new ≡ judged here.now.around.now found.old (expr_parts (tree.chain op (expr_at (exprs_of here.now.nodes.now) first) (links_at (exprs_of here.now.nodes.now) (link ∷ [])) at))) }
+    ensures of { IfOk result (λ m. m ≡ meaning here.now.around.now (tree.chain op (expr_at (exprs_of here.now.nodes.now) first) (links_at (exprs_of here.now.nodes.now) (link ∷ [])) at)) }
+{
+    let a = judge_value(here, found, first)?;
+    let b = judge_value(here, found, link.operand)?;
+    Ok(judged_pair(found, op, a, b, at))
 }
 
 // An operand after others.

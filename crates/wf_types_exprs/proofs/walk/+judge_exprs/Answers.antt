@@ -11,7 +11,7 @@ use Rattle.wf_types_exprs.specs.Judged.{judged, operand_behind, TellsType}
 use Rattle.wf_types_exprs.proofs.AboveLemmas.{type_above}
 use Rattle.wf_types_exprs.proofs.JudgedLaws.{judged-append, judged-none}
 use Rattle.wf_types_exprs.proofs.ListLemmas.{operands_begun, link_found, link_joined, arg_found, args_fit}
-use Rattle.wf_types_exprs.proofs.ExprLemmas.{number_found, status_found, truth_found, path_found, index_found, slice_found, chain_judged, conversion_judged, negation_found, call_found, argument_behind, path_handed, argument_fits}
+use Rattle.wf_types_exprs.proofs.ExprLemmas.{number_found, status_found, truth_found, path_found, index_found, slice_found, chain_judged, pair_judged, conversion_judged, negation_found, call_found, argument_behind, path_handed, argument_fits}
 use Rattle.wf_types_exprs.proofs.TypeLemmas.{converted_found, refined_tells, slice_tells, array_tells, prefix_next}
 use Rattle.wf_types_exprs.proofs.walk.+judge_exprs.Goals as goal
 
@@ -20,8 +20,8 @@ judge_expr-judge_call-requires t c =
     let parts = rw c.in-Call.is at c.expr-node.ensures.parts in
     (omega (arith, exprs_above c.args.e.0 c.in-Call.call.args parts, c.decreases), ArgsBelow-more c.args.e.0 (length c.args.here.now.nodes.now.exprs) (omega (arith, c.requires)) c.in-Call.call.args parts)
 
-pub judge_expr-judge_operands-requires : goal.judge_expr-judge_operands-requires
-judge_expr-judge_operands-requires t c =
+pub judge_expr-judge_chain-requires : goal.judge_expr-judge_chain-requires
+judge_expr-judge_chain-requires t c =
     let parts = rw c.in-Chain.is at c.expr-node.ensures.parts in
     let below : LinksBelow c.args.e.0 c.as_slice.result.now = rw c.as_slice.ensures parts.1 in
     (omega (arith, parts.0, links_above c.args.e.0 c.as_slice.result.now below, c.decreases), (omega (arith, parts.0, c.requires), LinksBelow-more c.args.e.0 (length c.args.here.now.nodes.now.exprs) (omega (arith, c.requires)) c.as_slice.result.now below))
@@ -63,14 +63,19 @@ judge_expr-returns-in_ok-ends-in-Slice-clause-found t c =
     ∙ slice_found c.args.here.now.around.now c.args.found.now c.judge_ends.new.found c.in-Slice.base (part_at es c.in-Slice.from) (part_at es c.in-Slice.to) c.expr-node.result.now.at c.base_value-whole.result ends.from ends.to
     c.base_value-whole.ensures c.in_ok-ends-in-Slice.ensures.from c.in_ok-ends-in-Slice.ensures.to c.in_ok-ends-in-Slice.ensures.found)
 
-pub judge_expr-returns-in_ok-operands-in-Chain-clause-found : goal.judge_expr-returns-in_ok-operands-in-Chain-clause-found
-judge_expr-returns-in_ok-operands-in-Chain-clause-found t c =
+pub judge_chain-returns-in_ok-operands-in_default-clause-found : goal.judge_chain-returns-in_ok-operands-in_default-clause-found
+judge_chain-returns-in_ok-operands-in_default-clause-found t c =
     let es = expr_trees c.args.here.now.nodes.now.exprs in
-    let os = c.in_ok-operands-in-Chain.operands in
-    let found = rw c.as_slice.ensures at c.in_ok-operands-in-Chain.ensures.found in
-    let of = rw c.as_slice.ensures at c.in_ok-operands-in-Chain.ensures.of in
-    rw (c.expr-node.ensures.made, c.in-Chain.is)
-    (c.judged_chain.ensures.found ∙ chain_judged c.args.here.now.around.now c.args.found.now c.judge_operands.new.found c.in-Chain.op (expr_at es c.in-Chain.first) (links_at es c.in-Chain.links) c.expr-node.result.now.at os of found)
+    let all = c.in_ok-operands-in_default in
+    c.judged_chain.ensures.found
+    ∙ chain_judged c.args.here.now.around.now c.args.found.now c.judge_operands.new.found c.args.op (expr_at es c.args.first) (links_at es c.args.links.now) c.args.at all.operands all.ensures.of all.ensures.found
+
+pub judge_pair-returns-clause-found : goal.judge_pair-returns-clause-found
+judge_pair-returns-clause-found t c =
+    let es = expr_trees c.args.here.now.nodes.now.exprs in
+    c.judged_pair.ensures.found
+    ∙ pair_judged c.args.here.now.around.now c.args.found.now c.judge_value.new.found c.judge_value-2.new.found c.args.op (expr_at es c.args.first) (expr_at es c.args.link.operand) c.args.link.sign c.args.at
+    c.in_ok-a.a c.in_ok-b.b c.in_ok-a.ensures.value c.in_ok-b.ensures.value c.in_ok-a.ensures.found c.in_ok-b.ensures.found
 
 pub judge_expr-returns-in_ok-of-in-Convert-clause-found : goal.judge_expr-returns-in_ok-of-in-Convert-clause-found
 judge_expr-returns-in_ok-of-in-Convert-clause-found t c =

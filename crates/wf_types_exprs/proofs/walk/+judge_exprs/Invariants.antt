@@ -22,6 +22,12 @@ decreases-judge_end l = 16 * above_part l.end
 abbrev pub decreases-judge_ends : goal.decreases-judge_ends
 decreases-judge_ends l = 16 * max (above_part l.from) (above_part l.to) + 1
 
+abbrev pub decreases-judge_chain : goal.decreases-judge_chain
+decreases-judge_chain l = 16 * max (l.first.0 + 1) (above_links l.links.now) + 3
+
+abbrev pub decreases-judge_pair : goal.decreases-judge_pair
+decreases-judge_pair l = 16 * max (l.first.0 + 1) (l.link.operand.0 + 1) + 2
+
 abbrev pub decreases-judge_operand : goal.decreases-judge_operand
 decreases-judge_operand l = 16 * l.e.0 + 14
 
