@@ -1,8 +1,8 @@
 -- The text of an expression is that of its links, one after the other.
-use Rattle.std.proofs.Common.{◌≡◌, ◌<◌, ◌+◌, ◌-◌, ◌++◌, ℕ, zero, suc, refl, sym, ◌∙◌, ap, arith, add-one, append_assoc, codes}
+use Rattle.std.proofs.Common.{◌≡◌, ◌<◌, ◌+◌, ◌-◌, ◌++◌, ℕ, zero, suc, Some, None, refl, sym, ◌∙◌, ap, arith, add-one, append_assoc, codes}
 use Rattle.c_text.specs.CTree.{ExprTree, number, variable, member, element, pointed, operation, unary, cast, choice, called}
 use Rattle.c_text.specs.CLayout.{expr_text}
-use Rattle.c_text.specs.CLinks.{link_count, without_links, link_text, links_text}
+use Rattle.c_text.specs.CLinks.{front_of, link_count, without_links, link_text, links_text}
 use Rattle.c_text.proofs.Trees.{append_nil}
 
 last_of : (e : ExprTree) → links_text e (suc zero) ≡ link_text e
@@ -19,6 +19,35 @@ last_of (called function given) = refl
 
 pub last_link : (e : ExprTree) (left : ℕ) → left ≡ 1 → links_text e left ≡ link_text e
 last_link e left h = ap (links_text e) h ∙ last_of e
+
+pub sole_link : (e : ExprTree) → front_of e ≡ None → expr_text e ≡ link_text e
+sole_link (member pointer field) h = absurd (cc h)
+sole_link (element pointer index) h = absurd (cc h)
+sole_link (number n) h = refl
+sole_link (variable name) h = refl
+sole_link (pointed pointer) h = refl
+sole_link (operation op first second others) h = refl
+sole_link (unary op of) h = refl
+sole_link (cast to of) h = refl
+sole_link (choice test met unmet) h = refl
+sole_link (called function given) h = refl
+
+-- An expression is what stands before its last link, and then that link.
+pub behind_front : (e of : ExprTree) → front_of e ≡ Some of → expr_text e ≡ expr_text of ++ link_text e
+behind_front (member pointer field) of h =
+    let same : pointer ≡ of = cc h in
+    append_assoc (expr_text pointer) (codes "->") field ∙ ap (λ (p : ExprTree). expr_text p ++ (codes "->" ++ field)) same
+behind_front (element pointer index) of h =
+    let same : pointer ≡ of = cc h in
+    ap (λ xs. xs ++ codes "]") (append_assoc (expr_text pointer) (codes "[") (expr_text index)) ∙ (append_assoc (expr_text pointer) (codes "[" ++ expr_text index) (codes "]") ∙ ap (λ (p : ExprTree). expr_text p ++ (codes "[" ++ expr_text index ++ codes "]")) same)
+behind_front (number n) of h = absurd (cc h)
+behind_front (variable name) of h = absurd (cc h)
+behind_front (pointed pointer) of h = absurd (cc h)
+behind_front (operation op first second others) of h = absurd (cc h)
+behind_front (unary op of_one) of h = absurd (cc h)
+behind_front (cast to of_one) of h = absurd (cc h)
+behind_front (choice test met unmet) of h = absurd (cc h)
+behind_front (called function given) of h = absurd (cc h)
 
 pub all_links : (e : ExprTree) → links_text e (link_count e) ≡ expr_text e
 all_links (member pointer field) =

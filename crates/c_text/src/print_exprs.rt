@@ -16,7 +16,9 @@ use crate::unit::Unit;
 use pens::Pen;
 use wf_text::number_text;
 
-fn decimal_number<P: Pen>(n: u64, pen: &mut P)
+/// Prints a number of any length in decimal digits.
+#[inline(never)]
+fn long_number<P: Pen>(n: u64, pen: &mut P)
     requires { P.ready pen.old }
     ensures ready { P.ready pen.new }
     ensures writes { P.writes pen.old pen.new (decimal n) }
@@ -26,6 +28,30 @@ fn decimal_number<P: Pen>(n: u64, pen: &mut P)
     pen.write(&digits[..count]);
 }
 
+/// The digit of a number below 10.
+#[inline]
+fn digit(n: u64) -> u8
+    requires { n < 10 }
+    ensures { result ≡ 48 + n }
+{
+    48 + n as u8
+}
+
+/// Prints a number in decimal digits; most have one.
+#[inline]
+fn decimal_number<P: Pen>(n: u64, pen: &mut P)
+    requires { P.ready pen.old }
+    ensures ready { P.ready pen.new }
+    ensures writes { P.writes pen.old pen.new (decimal n) }
+{
+    if n < 10 {
+        pen.write(&[digit(n)]);
+    } else {
+        long_number(n, pen);
+    }
+}
+
+#[inline]
 pub(crate) fn literal<P: Pen>(n: CNumber, pen: &mut P)
     requires { P.ready pen.old }
     ensures ready { P.ready pen.new }
@@ -44,28 +70,29 @@ pub(crate) fn literal<P: Pen>(n: CNumber, pen: &mut P)
     }
 }
 
-fn op_spelling(op: COp) -> &'static [u8]
-    ensures { result.now ≡ op_bytes op }
+/// An operator with a space on both sides.
+fn spaced_spelling(op: COp) -> &'static [u8]
+    ensures { result.now ≡ codes " " ++ op_bytes op ++ codes " " }
 {
     match op {
-        COp::Add => b"+",
-        COp::Sub => b"-",
-        COp::Mul => b"*",
-        COp::Div => b"/",
-        COp::Rem => b"%",
-        COp::Shl => b"<<",
-        COp::Shr => b">>",
-        COp::BitAnd => b"&",
-        COp::BitOr => b"|",
-        COp::BitXor => b"^",
-        COp::Lt => b"<",
-        COp::Le => b"<=",
-        COp::Gt => b">",
-        COp::Ge => b">=",
-        COp::Eq => b"==",
-        COp::Ne => b"!=",
-        COp::Both => b"&&",
-        COp::Either => b"||",
+        COp::Add => b" + ",
+        COp::Sub => b" - ",
+        COp::Mul => b" * ",
+        COp::Div => b" / ",
+        COp::Rem => b" % ",
+        COp::Shl => b" << ",
+        COp::Shr => b" >> ",
+        COp::BitAnd => b" & ",
+        COp::BitOr => b" | ",
+        COp::BitXor => b" ^ ",
+        COp::Lt => b" < ",
+        COp::Le => b" <= ",
+        COp::Gt => b" > ",
+        COp::Ge => b" >= ",
+        COp::Eq => b" == ",
+        COp::Ne => b" != ",
+        COp::Both => b" && ",
+        COp::Either => b" || ",
     }
 }
 
@@ -126,9 +153,7 @@ fn spaced_op<P: Pen>(op: COp, pen: &mut P)
     ensures ready { P.ready pen.new }
     ensures writes { P.writes pen.old pen.new (codes " " ++ op_bytes op ++ codes " ") }
 {
-    pen.write(b" ");
-    pen.write(op_spelling(op));
-    pen.write(b" ");
+    pen.write(spaced_spelling(op));
 }
 
 /// What stands before the last link of an expression; None where the expression is one link.
@@ -186,7 +211,7 @@ fn before_links(u: &Unit, e: CExprId, count: usize) -> CExprId
     at
 }
 
-/// Prints an expression.
+/// Prints an expression. Most are a number or a name.
 #[cycle(print_exprs)]
 pub(crate) fn expr<P: Pen>(u: &Unit, e: CExprId, pen: &mut P)
     requires has { e.0 < length u.now.exprs }
@@ -194,8 +219,44 @@ pub(crate) fn expr<P: Pen>(u: &Unit, e: CExprId, pen: &mut P)
     ensures ready { P.ready pen.new }
     ensures writes { P.writes pen.old pen.new (expr_text (expr_of u.now e.0)) }
 {
-    let count = count_links(u, e);
-    links(u, e, count, pen);
+    match u.expr(e) {
+        CExpr::Number(n) => literal(*n, pen),
+        CExpr::Name(n) => pen.write(u.name(*n)),
+        _ => any_expr(u, e, pen),
+    }
+}
+
+/// Prints an expression of any form.
+#[cycle(print_exprs)]
+fn any_expr<P: Pen>(u: &Unit, e: CExprId, pen: &mut P)
+    requires has { e.0 < length u.now.exprs }
+    requires ready { P.ready pen.old }
+    ensures ready { P.ready pen.new }
+    ensures writes { P.writes pen.old pen.new (expr_text (expr_of u.now e.0)) }
+{
+    match front(u, e) {
+        None => link(u, e, pen),
+        Some(of) => chain(u, of, e, pen),
+    }
+}
+
+/// Prints an expression whose last link stands behind `of`. A name with one link behind it is printed as it stands.
+#[cycle(print_exprs)]
+fn chain<P: Pen>(u: &Unit, of: CExprId, whole: CExprId, pen: &mut P)
+    requires has { whole.0 < length u.now.exprs }
+    requires before { of.0 < whole.0 }
+    requires front { front_of (expr_of u.now whole.0) ≡ Some (expr_of u.now of.0) }
+    requires ready { P.ready pen.old }
+    ensures ready { P.ready pen.new }
+    ensures writes { P.writes pen.old pen.new (expr_text (expr_of u.now whole.0)) }
+{
+    match u.expr(of) {
+        CExpr::Name(n) => {
+            pen.write(u.name(*n));
+            link(u, whole, pen);
+        }
+        _ => links(u, whole, count_links(u, whole), pen),
+    }
 }
 
 /// Prints the last `count` links of an expression, the first half of them before the others. So the links that are

@@ -2,13 +2,21 @@ use Rattle.std.proofs.Common.{◌<◌, length, ap, ◌∙◌, get_or, arith}
 use Rattle.std.proofs.lemmas.List.{take_rest}
 use Rattle.c_text.specs.CNodes.{expr_of}
 use Rattle.pens.proofs.Progress.{goes_on, unroll, shift_on, shift_done}
-use Rattle.c_text.proofs.Links.{all_links, halved, last_link}
+use Rattle.c_text.proofs.Links.{all_links, behind_front, halved, last_link, sole_link}
 use Rattle.c_text.proofs.Trees.{expr_of-node}
 use Rattle.c_text.proofs.Parts.{args_written, args_rest, args_step, args_first, no_arg_given, operands_written, exprs_rest, no_expr}
 use Rattle.c_text.proofs.print_exprs.+print_exprs.Goals as goal
 
-pub expr-returns-clause-writes : goal.expr-returns-clause-writes
-expr-returns-clause-writes g t c = rw (← all_links (expr_of c.args.u.now c.args.e.0), ← c.count_links-count.ensures.counted) c.links.ensures.writes
+pub any_expr-returns-in-None-clause-writes : goal.any_expr-returns-in-None-clause-writes
+any_expr-returns-in-None-clause-writes g t c = rw (sole_link (expr_of c.args.u.now c.args.e.0) c.in-None.ensures) c.link.ensures.writes
+
+pub chain-returns-in-Name-clause-writes : goal.chain-returns-in-Name-clause-writes
+chain-returns-in-Name-clause-writes g t c =
+    let r1 = g.met.P.Pen.joined _ _ _ _ _ (rw c.name.ensures at c.write.ensures.writes) c.link.ensures.writes in
+    rw (behind_front _ _ c.requires.front, expr_of-node _ _ _ _ c.expr.ensures.tree c.in-Name.is) r1
+
+pub chain-returns-in_default-clause-writes : goal.chain-returns-in_default-clause-writes
+chain-returns-in_default-clause-writes g t c = rw (← all_links (expr_of c.args.u.now c.args.whole.0), ← c.count_links.ensures.counted) c.links.ensures.writes
 
 pub links-returns-clause-writes : goal.links-returns-clause-writes
 links-returns-clause-writes g t c =

@@ -7,7 +7,13 @@ use Rattle.c_text.proofs.Parts.{args_written, operands_written}
 use Rattle.c_text.proofs.print_exprs.+print_exprs.Given as goal
 
 abbrev pub decreases-expr : goal.decreases-expr
-decreases-expr g l = 16 * l.e.0 + 8
+decreases-expr g l = 16 * l.e.0 + 10
+
+abbrev pub decreases-any_expr : goal.decreases-any_expr
+decreases-any_expr g l = 16 * l.e.0 + 9
+
+abbrev pub decreases-chain : goal.decreases-chain
+decreases-chain g l = 16 * l.whole.0 + 8
 
 abbrev pub decreases-links : goal.decreases-links
 decreases-links g l = 16 * l.e.0 + 7

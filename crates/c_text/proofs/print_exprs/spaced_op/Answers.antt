@@ -1,8 +1,0 @@
-use Rattle.c_text.proofs.print_exprs.spaced_op.Goals as goal
-
-pub returns-clause-writes : goal.returns-clause-writes
-returns-clause-writes g c =
-    let j = g.met.P.Pen.joined in
-    let r1 = j _ _ _ _ _ c.write.ensures.writes (rw c.op_spelling.ensures at c.write-2.ensures.writes) in
-    let r2 = j _ _ _ _ _ r1 c.write-3.ensures.writes in
-    r2
