@@ -4,21 +4,30 @@ ghost use Rattle.std.specs.Prelude.{◌≡◌, ◌++◌, true, IfSome, OnOk};
 
 use wf_text::NoMemory;
 
-/// A number made of a word's length and its last bytes.
-fn mixed(word: &[u8]) -> usize {
-    let front = word.len().saturating_sub(4);
-    let mut mix = word.len();
-    for byte in &word[front..] {
-        mix = mix.wrapping_mul(31).wrapping_add(*byte as usize);
+/// The last bytes of a word, four at most, as one number.
+#[inline]
+fn tail(word: &[u8]) -> usize {
+    match word {
+        [] => 0,
+        [a] => *a as usize,
+        [a, b] => (*a as usize) << 8 | *b as usize,
+        [a, b, c] => (*a as usize) << 16 | (*b as usize) << 8 | *c as usize,
+        [.., a, b, c, d] => {
+            (*a as usize) << 24 | (*b as usize) << 16 | (*c as usize) << 8 | *d as usize
+        }
     }
-    mix
 }
 
+/// An odd number whose multiples stand far from one another; the high bits of one depend on all bits of its factor.
+const SPREAD: usize = 0x9E37_79B9_7F4A_7C15;
+
 /// Where the name of these words is looked for first.
+#[inline]
 pub(crate) fn place_of(first: &[u8], second: &[u8], third: &[u8], fourth: &[u8]) -> usize {
-    let front = mixed(first).wrapping_mul(7).wrapping_add(mixed(second));
-    let back = mixed(third).wrapping_mul(7).wrapping_add(mixed(fourth));
-    front.wrapping_mul(5).wrapping_add(back)
+    let front = tail(first).wrapping_mul(31).wrapping_add(tail(second));
+    let back = tail(third).wrapping_mul(31).wrapping_add(tail(fourth));
+    let mix = front.wrapping_mul(127).wrapping_add(back);
+    mix.wrapping_mul(SPREAD) >> 48
 }
 
 /// What follows the word at the front of a name, if it stands there.
