@@ -8,6 +8,7 @@ use crate::kinds::CNumber;
 use crate::nodes::CExpr;
 
 /// Where an expression is looked for, if it may serve again.
+#[inline]
 pub(crate) fn place_of(e: &CExpr) -> Option<usize> {
     match e {
         CExpr::Number(CNumber::Int(n)) => Some(*n as usize),
@@ -17,6 +18,7 @@ pub(crate) fn place_of(e: &CExpr) -> Option<usize> {
     }
 }
 
+#[inline]
 fn is_number(e: &CExpr, n: CNumber) -> bool
     ensures { result ≡ true → e.now ≡ expr.Number n }
 {
@@ -26,6 +28,7 @@ fn is_number(e: &CExpr, n: CNumber) -> bool
     }
 }
 
+#[inline]
 fn is_name(e: &CExpr, name: CNameId) -> bool
     ensures { result ≡ true → e.now ≡ expr.Name name }
 {
@@ -35,6 +38,7 @@ fn is_name(e: &CExpr, name: CNameId) -> bool
     }
 }
 
+#[inline]
 fn is_member(e: &CExpr, pointer: CExprId, name: CNameId) -> bool
     ensures { result ≡ true → e.now ≡ expr.Member pointer name }
 {
@@ -45,6 +49,7 @@ fn is_member(e: &CExpr, pointer: CExprId, name: CNameId) -> bool
 }
 
 /// Whether two expressions are one number, one name, or one member.
+#[inline]
 pub(crate) fn is_same(known: &CExpr, e: &CExpr) -> bool
     ensures { result ≡ true → known.now ≡ e.now }
 {

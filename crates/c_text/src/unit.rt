@@ -266,6 +266,7 @@ impl Unit {
     }
 
     /// An expression that was added not long ago and is the same.
+    #[inline]
     fn known(&self, place: usize, e: &CExpr) -> Option<CExprId>
         ensures { IfSome result (λ id. slice_get self.now.exprs id.0 ≡ Some e.now) }
     {
@@ -278,23 +279,36 @@ impl Unit {
         }
     }
 
-    /// Adds an expression, unless one that was added not long ago is the same.
-    fn share_at(&mut self, place: usize, e: CExpr) -> Result<CExprId, NoMemory>
+    /// Adds an expression, and puts its number at its place. After `NoMemory` the unit is as before.
+    #[inline(never)]
+    fn add_at(&mut self, place: usize, e: CExpr) -> Result<CExprId, NoMemory>
         requires { FitsExpr self.old (length self.old.exprs) e }
         ensures ok { IfOk result (λ id. SharesExpr self.old self.new e id.0) }
         ensures err { OnErr result (self.new ≡ self.old) }
     {
-        if let Some(id) = self.known(place, &e) {
-            return Ok(id);
-        }
         self.recent_exprs.widen()?;
         let id = self.add_expr(e)?;
         self.recent_exprs.put(place, id.0);
         Ok(id)
     }
 
+    /// Adds an expression, unless one that was added not long ago is the same.
+    #[inline]
+    fn share_at(&mut self, place: usize, e: CExpr) -> Result<CExprId, NoMemory>
+        requires { FitsExpr self.old (length self.old.exprs) e }
+        ensures ok { IfOk result (λ id. SharesExpr self.old self.new e id.0) }
+        ensures err { OnErr result (self.new ≡ self.old) }
+    {
+        self.is_sound();
+        if let Some(id) = self.known(place, &e) {
+            return Ok(id);
+        }
+        self.add_at(place, e)
+    }
+
     /// An expression whose parts this unit has made. A number, a name or a member that was added not long ago serves
     /// again; else it is added. After `NoMemory` the unit is as before.
+    #[inline]
     pub fn share_expr(&mut self, e: CExpr) -> Result<CExprId, NoMemory>
         requires { FitsExpr self.old (length self.old.exprs) e }
         ensures ok { IfOk result (λ id. SharesExpr self.old self.new e id.0) }
