@@ -1,5 +1,5 @@
 -- The text of an `if` by what stands after its block.
-use Rattle.std.proofs.Common.{◌≡◌, ℕ, true, ◌++◌, IsTrue, refl, sym, ◌∙◌, ap, subst, append_assoc, codes}
+use Rattle.std.proofs.Common.{◌≡◌, ℕ, List, true, ◌++◌, IsTrue, refl, sym, ◌∙◌, ap, subst, append_assoc, codes}
 use Rattle.c_text.specs.declared.ids.CExprId.{CExprId}
 use Rattle.c_text.specs.declared.ids.CStmtId.{CStmtId}
 use Rattle.c_text.specs.declared.kinds.Otherwise.{Otherwise}
@@ -39,3 +39,7 @@ fits_branch (name_label name rest) h = absurd h
 
 pub chained_branch : (nodes : Nodes) (s : ℕ) (parts : CExprId × CStmtId × Otherwise × CStmtId) → IsIfAt nodes s parts → parts.2 ≡ else_is.If → IsTrue (is_branch (code_of nodes parts.3.0))
 chained_branch nodes s parts h e = fits_branch (code_of nodes parts.3.0) (subst (λ (o : Otherwise). FitsElse o (code_of nodes parts.3.0)) e h.fits)
+
+-- What ends a statement and its line is one piece.
+pub line_end : (front last : List ℕ) → front ++ (last ++ codes "\n") ≡ (front ++ last) ++ codes "\n"
+line_end front last = sym (append_assoc front last (codes "\n"))

@@ -7,12 +7,16 @@ use Rattle.c_text.specs.declared.ids.CStmtId.{CStmtId}
 use Rattle.c_text.specs.declared.kinds.Otherwise.{Otherwise}
 use Rattle.c_text.specs.CGrammar.{FitsElse}
 use Rattle.c_text.specs.CNodes.{Nodes, bytes_at, expr_of, code_of}
-use Rattle.c_text.specs.CTree.{ExprTree, Code, branch}
+use Rattle.c_text.specs.CTree.{ExprTree, Code, finish, branch}
 use Rattle.c_text.specs.CLayout.{expr_text, code_text, indented}
 
 abbrev pub is_branch : Code → Bool
 is_branch (branch test body otherwise other rest) = true
 is_branch _ = false
+
+abbrev pub is_finish : Code → Bool
+is_finish finish = true
+is_finish _ = false
 
 -- A block is laid out as its first statement on a line of its own, and then its rest.
 abbrev pub IsRest : Code → Code → Type 0

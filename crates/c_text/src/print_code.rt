@@ -3,9 +3,8 @@
 ghost use Rattle.std.specs.Prelude.{◌≡◌, ◌<◌, ◌≤◌, ◌+◌, ◌^◌, ◌++◌, length, ℕ, List, false, true, codes, IsTrue, IfNone, IfSome, MatchOption};
 ghost use Rattle.c_text.specs.CNodes.{bytes_at, expr_of, code_of, args_in, value_in};
 ghost use Rattle.c_text.specs.CFits.{HasCall};
-ghost use Rattle.c_text.specs.CTree.{finish};
 ghost use Rattle.c_text.specs.CLayout.{indented, expr_text, value_text, target_text, call_text, braced, tested, code_text};
-ghost use Rattle.c_text.specs.CLines.{IsIfAt, IsRest, is_branch};
+ghost use Rattle.c_text.specs.CLines.{IsIfAt, IsRest, is_branch, is_finish};
 
 use crate::ids::{CExprId, CStmtId};
 use crate::kinds::Otherwise;
@@ -65,25 +64,26 @@ fn kept_in<P: Pen>(u: &Unit, target: Option<CExprId>, pen: &mut P)
     }
 }
 
-/// Answers the rest of a block after its first statement; none at the block's end.
-fn rest_of(u: &Unit, s: CStmtId) -> Option<CStmtId>
-    requires has { s.0 < length u.now.stmts }
-    ensures { MatchOption result (code_of u.now s.0 ≡ finish) (λ rest. (rest.0 < s.0) × IsRest (code_of u.now s.0) (code_of u.now rest.0)) }
+/// Whether a block ends here.
+#[inline]
+fn is_end(u: &Unit, s: CStmtId) -> bool
+    requires { s.0 < length u.now.stmts }
+    ensures { result ≡ is_finish (code_of u.now s.0) }
 {
     match u.stmt(s) {
-        CStmt::End => None,
-        CStmt::Block { rest, .. } => Some(*rest),
-        CStmt::Empty { rest } => Some(*rest),
-        CStmt::Assign { rest, .. } => Some(*rest),
-        CStmt::Call { rest, .. } => Some(*rest),
-        CStmt::Goto { rest, .. } => Some(*rest),
-        CStmt::If { rest, .. } => Some(*rest),
-        CStmt::While { rest, .. } => Some(*rest),
-        CStmt::Switch { rest, .. } => Some(*rest),
-        CStmt::Return { rest, .. } => Some(*rest),
-        CStmt::Case { rest, .. } => Some(*rest),
-        CStmt::Default { rest } => Some(*rest),
-        CStmt::Label { rest, .. } => Some(*rest),
+        CStmt::End => true,
+        CStmt::Block { .. } => false,
+        CStmt::Empty { .. } => false,
+        CStmt::Assign { .. } => false,
+        CStmt::Call { .. } => false,
+        CStmt::Goto { .. } => false,
+        CStmt::If { .. } => false,
+        CStmt::While { .. } => false,
+        CStmt::Switch { .. } => false,
+        CStmt::Return { .. } => false,
+        CStmt::Case { .. } => false,
+        CStmt::Default { .. } => false,
+        CStmt::Label { .. } => false,
     }
 }
 
@@ -97,11 +97,9 @@ pub(crate) fn code<P: Pen>(u: &Unit, s: CStmtId, depth: usize, pen: &mut P)
     ensures writes { P.writes pen.old pen.new (code_text (code_of u.now s.0) false depth) }
 {
     let mut at = s;
-    while let Some(rest) = rest_of(u, at) {
+    while !is_end(u, at) {
         indent(depth, pen);
-        line(u, at, depth, pen);
-        pen.write(b"\n");
-        at = rest;
+        at = line(u, at, depth, pen);
     }
 }
 
@@ -210,70 +208,109 @@ fn branch_line<P: Pen>(u: &Unit, s: CStmtId, depth: usize, pen: &mut P)
     }
 }
 
-/// Prints the first statement of a block without the front and the end of its line.
+/// Prints the first statement of a block without the front of its line, and answers the rest of the block.
 #[cycle(print_code)]
-fn line<P: Pen>(u: &Unit, s: CStmtId, depth: usize, pen: &mut P)
+fn line<P: Pen>(u: &Unit, s: CStmtId, depth: usize, pen: &mut P) -> CStmtId
     requires has { s.0 < length u.now.stmts }
+    requires more { is_finish (code_of u.now s.0) ≡ false }
     requires depth { depth + s.0 < 2 ^ 64 }
     requires ready { P.ready pen.old }
     ensures ready { P.ready pen.new }
-    ensures writes { P.writes pen.old pen.new (code_text (code_of u.now s.0) true depth) }
+    ensures writes { P.writes pen.old pen.new (code_text (code_of u.now s.0) true depth ++ codes "\n") }
+    ensures below { result.0 < s.0 }
+    ensures rest { IsRest (code_of u.now s.0) (code_of u.now result.0) }
 {
     match u.stmt(s) {
-        CStmt::End => {}
-        CStmt::Block { inner, .. } => braces(u, *inner, depth, pen),
-        CStmt::If { .. } => branch_line(u, s, depth, pen),
-        CStmt::While { test, body, .. } => tested_block(u, (b"while (", *test), *body, depth, pen),
-        CStmt::Switch { on, body, .. } => tested_block(u, (b"switch (", *on), *body, depth, pen),
-        CStmt::Empty { .. } => pen.write(b";"),
-        CStmt::Assign { target, value, .. } => assignment(u, *target, *value, pen),
-        CStmt::Call { target, call, .. } => call_line(u, *target, call, pen),
-        CStmt::Goto { label, .. } => {
+        CStmt::End => unreachable!(),
+        CStmt::Block { inner, rest } => {
+            braces(u, *inner, depth, pen);
+            pen.write(b"\n");
+            *rest
+        }
+        CStmt::If { rest, .. } => {
+            branch_line(u, s, depth, pen);
+            pen.write(b"\n");
+            *rest
+        }
+        CStmt::While { test, body, rest } => {
+            tested_block(u, (b"while (", *test), *body, depth, pen);
+            pen.write(b"\n");
+            *rest
+        }
+        CStmt::Switch { on, body, rest } => {
+            tested_block(u, (b"switch (", *on), *body, depth, pen);
+            pen.write(b"\n");
+            *rest
+        }
+        CStmt::Empty { rest } => {
+            pen.write(b";\n");
+            *rest
+        }
+        CStmt::Assign {
+            target,
+            value,
+            rest,
+        } => {
+            assignment(u, *target, *value, pen);
+            *rest
+        }
+        CStmt::Call { target, call, rest } => {
+            call_line(u, *target, call, pen);
+            *rest
+        }
+        CStmt::Goto { label, rest } => {
             pen.write(b"goto ");
             pen.write(u.name(*label));
-            pen.write(b";");
+            pen.write(b";\n");
+            *rest
         }
-        CStmt::Return { value, .. } => {
+        CStmt::Return { value, rest } => {
             pen.write(b"return");
             returned(u, *value, pen);
-            pen.write(b";");
+            pen.write(b";\n");
+            *rest
         }
-        CStmt::Case { number, .. } => {
+        CStmt::Case { number, rest } => {
             pen.write(b"case ");
             literal(*number, pen);
-            pen.write(b":");
+            pen.write(b":\n");
+            *rest
         }
-        CStmt::Default { .. } => pen.write(b"default:"),
-        CStmt::Label { name, .. } => {
+        CStmt::Default { rest } => {
+            pen.write(b"default:\n");
+            *rest
+        }
+        CStmt::Label { name, rest } => {
             pen.write(u.name(*name));
-            pen.write(b":");
+            pen.write(b":\n");
+            *rest
         }
     }
 }
 
-/// Prints `target = value;`.
+/// Prints `target = value;` and the end of its line.
 fn assignment<P: Pen>(u: &Unit, target: CExprId, value: CExprId, pen: &mut P)
     requires target { target.0 < length u.now.exprs }
     requires value { value.0 < length u.now.exprs }
     requires ready { P.ready pen.old }
     ensures ready { P.ready pen.new }
-    ensures writes { P.writes pen.old pen.new (expr_text (expr_of u.now target.0) ++ codes " = " ++ expr_text (expr_of u.now value.0) ++ codes ";") }
+    ensures writes { P.writes pen.old pen.new (expr_text (expr_of u.now target.0) ++ codes " = " ++ expr_text (expr_of u.now value.0) ++ codes ";\n") }
 {
     expr(u, target, pen);
     pen.write(b" = ");
     expr(u, value, pen);
-    pen.write(b";");
+    pen.write(b";\n");
 }
 
-/// Prints `call;` or `target = call;`.
+/// Prints `call;` or `target = call;` and the end of its line.
 fn call_line<P: Pen>(u: &Unit, target: Option<CExprId>, called: &CCall, pen: &mut P)
     requires target { IfSome target (λ e. e.0 < length u.now.exprs) }
     requires has { HasCall u.now (length u.now.exprs) called.now }
     requires ready { P.ready pen.old }
     ensures ready { P.ready pen.new }
-    ensures writes { P.writes pen.old pen.new (target_text (value_in (expr_of u.now) target) ++ call_text (bytes_at u.now.names called.now.function.0) (args_in u.now.names (expr_of u.now) called.now.args) ++ codes ";") }
+    ensures writes { P.writes pen.old pen.new (target_text (value_in (expr_of u.now) target) ++ call_text (bytes_at u.now.names called.now.function.0) (args_in u.now.names (expr_of u.now) called.now.args) ++ codes ";\n") }
 {
     kept_in(u, target, pen);
     call(u, u.exprs(), called, pen);
-    pen.write(b";");
+    pen.write(b";\n");
 }

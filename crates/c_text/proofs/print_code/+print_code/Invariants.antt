@@ -23,14 +23,14 @@ decreases-braces g l = 6 * l.inner.0 + 4
 abbrev pub decreases-tested_block : goal.decreases-tested_block
 decreases-tested_block g l = 6 * l.body.0 + 5
 
-abbrev pub decreases-code-loop-rest : goal.decreases-code-loop-rest
-decreases-code-loop-rest g l = l.at.0
+abbrev pub decreases-code-loop-at : goal.decreases-code-loop-at
+decreases-code-loop-at g l = l.at.0
 
 abbrev pub decreases-branch_line-loop-next : goal.decreases-branch_line-loop-next
 decreases-branch_line-loop-next g l = l.at.0
 
-abbrev pub invariant-code-loop-rest : goal.invariant-code-loop-rest
-invariant-code-loop-rest g l = record {
+abbrev pub invariant-code-loop-at : goal.invariant-code-loop-at
+invariant-code-loop-at g l = record {
   ready : g.P.Pen.ready l.pen;
   has : l.at.0 < length l.u.stmts;
   before : l.at.0 < l.initial.at.0 + 1;
