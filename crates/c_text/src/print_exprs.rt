@@ -106,14 +106,17 @@ fn unary_front(op: CUnary) -> &'static [u8]
     }
 }
 
-fn uint_spelling(kind: CUint) -> &'static [u8]
-    ensures { result.now ≡ uint_bytes kind }
+/// Prints an unsigned type.
+fn uint_type<P: Pen>(kind: CUint, pen: &mut P)
+    requires { P.ready pen.old }
+    ensures ready { P.ready pen.new }
+    ensures writes { P.writes pen.old pen.new (uint_bytes kind) }
 {
     match kind {
-        CUint::U8 => b"uint8_t",
-        CUint::U16 => b"uint16_t",
-        CUint::U32 => b"uint32_t",
-        CUint::U64 => b"uint64_t",
+        CUint::U8 => pen.write(b"uint8_t"),
+        CUint::U16 => pen.write(b"uint16_t"),
+        CUint::U32 => pen.write(b"uint32_t"),
+        CUint::U64 => pen.write(b"uint64_t"),
     }
 }
 
@@ -124,11 +127,11 @@ pub(crate) fn value_type<P: Pen>(u: &Unit, kind: CType, pen: &mut P)
     ensures writes { P.writes pen.old pen.new (type_text (type_in u.now.names kind)) }
 {
     match kind {
-        CType::Uint(uint) => pen.write(uint_spelling(uint)),
+        CType::Uint(uint) => uint_type(uint, pen),
         CType::Size => pen.write(b"size_t"),
         CType::Bool => pen.write(b"_Bool"),
         CType::UintPointer(uint) => {
-            pen.write(uint_spelling(uint));
+            uint_type(uint, pen);
             pen.write(b"*");
         }
         CType::StructPointer(name) => {
