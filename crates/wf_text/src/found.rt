@@ -38,7 +38,9 @@ impl Found {
     pub fn refuse(&mut self, now: Option<Refusal>)
         ensures { self.new ≡ sooner_of self.old now }
     {
-        self.first = sooner(self.first, now);
+        if let Some(new) = now {
+            self.first = sooner(self.first, Some(new));
+        }
     }
 
     /// The refusal by a rule at a place joins what was found before, where there is such a place.
