@@ -8,7 +8,7 @@ use crate::kinds::CNumber;
 use crate::nodes::CExpr;
 
 /// Where an expression is looked for, if it may serve again.
-#[inline]
+#[inline(always)]
 pub(crate) fn place_of(e: &CExpr) -> Option<usize> {
     match e {
         CExpr::Number(CNumber::Int(n)) => Some(*n as usize),
@@ -18,7 +18,7 @@ pub(crate) fn place_of(e: &CExpr) -> Option<usize> {
     }
 }
 
-#[inline]
+#[inline(always)]
 fn is_number(e: &CExpr, n: CNumber) -> bool
     ensures { result ≡ true → e.now ≡ expr.Number n }
 {
@@ -28,7 +28,7 @@ fn is_number(e: &CExpr, n: CNumber) -> bool
     }
 }
 
-#[inline]
+#[inline(always)]
 fn is_name(e: &CExpr, name: CNameId) -> bool
     ensures { result ≡ true → e.now ≡ expr.Name name }
 {
@@ -38,7 +38,7 @@ fn is_name(e: &CExpr, name: CNameId) -> bool
     }
 }
 
-#[inline]
+#[inline(always)]
 fn is_member(e: &CExpr, pointer: CExprId, name: CNameId) -> bool
     ensures { result ≡ true → e.now ≡ expr.Member pointer name }
 {
@@ -49,7 +49,7 @@ fn is_member(e: &CExpr, pointer: CExprId, name: CNameId) -> bool
 }
 
 /// Whether two expressions are one number, one name, or one member.
-#[inline]
+#[inline(always)]
 pub(crate) fn is_same(known: &CExpr, e: &CExpr) -> bool
     ensures { result ≡ true → known.now ≡ e.now }
 {

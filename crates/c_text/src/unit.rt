@@ -217,6 +217,28 @@ impl Unit {
         is_spelt(self.names.text(n), first, second, third, fourth)
     }
 
+    /// The number of the name that is these words, of which nothing is known at its place. After `NoMemory` the unit is as
+    /// before.
+    #[inline(never)]
+    fn add_spelt(
+        &mut self,
+        place: usize,
+        first: &[u8],
+        second: &[u8],
+        third: &[u8],
+        fourth: &[u8],
+    ) -> Result<CNameId, NoMemory>
+        requires { IsName (first.now ++ (second.now ++ (third.now ++ fourth.now))) }
+        ensures ok { IfOk result (λ n. AddsName self.old self.new (first.now ++ (second.now ++ (third.now ++ fourth.now))) n.0) }
+        ensures err { OnErr result (self.new ≡ self.old) }
+    {
+        self.recent_names.widen()?;
+        join(&mut self.spelling, first, second, third, fourth)?;
+        let n = self.names.intern(self.spelling.as_slice())?;
+        self.recent_names.put(place, n);
+        Ok(CNameId(n))
+    }
+
     /// The number of the name that is these words, one after the other; a word may be empty. It is added where the unit
     /// doesn't have it yet. After `NoMemory` the unit is as before.
     pub fn add_words(
@@ -235,11 +257,7 @@ impl Unit {
         if self.is_spelt_at(guess, first, second, third, fourth) {
             return Ok(CNameId(guess));
         }
-        self.recent_names.widen()?;
-        join(&mut self.spelling, first, second, third, fourth)?;
-        let n = self.names.intern(self.spelling.as_slice())?;
-        self.recent_names.put(place, n);
-        Ok(CNameId(n))
+        self.add_spelt(place, first, second, third, fourth)
     }
 
     /// Adds a string. After `NoMemory` the unit is as before.
@@ -266,7 +284,7 @@ impl Unit {
     }
 
     /// An expression that was added not long ago and is the same.
-    #[inline]
+    #[inline(always)]
     fn known(&self, place: usize, e: &CExpr) -> Option<CExprId>
         ensures { IfSome result (λ id. slice_get self.now.exprs id.0 ≡ Some e.now) }
     {
@@ -293,7 +311,7 @@ impl Unit {
     }
 
     /// Adds an expression, unless one that was added not long ago is the same.
-    #[inline]
+    #[inline(always)]
     fn share_at(&mut self, place: usize, e: CExpr) -> Result<CExprId, NoMemory>
         requires { FitsExpr self.old (length self.old.exprs) e }
         ensures ok { IfOk result (λ id. SharesExpr self.old self.new e id.0) }
@@ -308,7 +326,7 @@ impl Unit {
 
     /// An expression whose parts this unit has made. A number, a name or a member that was added not long ago serves
     /// again; else it is added. After `NoMemory` the unit is as before.
-    #[inline]
+    #[inline(always)]
     pub fn share_expr(&mut self, e: CExpr) -> Result<CExprId, NoMemory>
         requires { FitsExpr self.old (length self.old.exprs) e }
         ensures ok { IfOk result (λ id. SharesExpr self.old self.new e id.0) }

@@ -24,10 +24,9 @@ const SPREAD: usize = 0x9E37_79B9_7F4A_7C15;
 /// Where the name of these words is looked for first.
 #[inline]
 pub(crate) fn place_of(first: &[u8], second: &[u8], third: &[u8], fourth: &[u8]) -> usize {
-    let front = tail(first).wrapping_mul(31).wrapping_add(tail(second));
-    let back = tail(third).wrapping_mul(31).wrapping_add(tail(fourth));
-    let mix = front.wrapping_mul(127).wrapping_add(back);
-    mix.wrapping_mul(SPREAD) >> 48
+    let front = tail(first) << 32 | tail(second);
+    let back = tail(third) << 32 | tail(fourth);
+    front.wrapping_mul(31).wrapping_add(back).wrapping_mul(SPREAD) >> 48
 }
 
 /// What follows the word at the front of a name, if it stands there.
