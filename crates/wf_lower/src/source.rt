@@ -34,8 +34,8 @@ impl<'a> Source<'a> {
 /// How many statements the package has, or a few less: a part's number is below that of its whole. What rests on it is a guess.
 pub(crate) fn statements(t: &Typed) -> usize {
     let mut most = 0;
-    for m in 0..t.methods() {
-        if let Some(last) = t.body(MethodId(m)).items.as_slice().last() {
+    for method in 0..t.methods() {
+        if let Some(last) = t.body(MethodId(method)).items.as_slice().last() {
             most = most.max(last.0 as usize);
         }
     }
