@@ -6,6 +6,7 @@ pub mod JumpLemmas
 pub mod ListLaws
 pub mod OwnedLemmas
 pub mod PairLemmas
+pub mod PassedLemmas
 pub mod StmtLemmas
 pub mod TypeLemmas
 pub mod WalkLemmas

@@ -59,6 +59,19 @@ abbrev pub passed_twice : (arg : ℕ → Option Sort) → (seen : List ℕ) → 
 passed_twice arg seen [] = []
 passed_twice arg seen (g ∷ gs) = passed_twice_by_value arg seen (arg_path g.value) ∷ passed_twice arg (passed_seen seen (arg_path g.value)) gs
 
+-- The same, where of the arguments before it only readers and writers are kept.
+abbrev pub io_seen_if : Bool → (seen : List ℕ) → ℕ → List ℕ
+io_seen_if true seen text = insert_key nat_eq seen text
+io_seen_if false seen text = seen
+
+abbrev pub io_seen : (arg : ℕ → Option Sort) → (seen : List ℕ) → Option Path → List ℕ
+io_seen arg seen None = seen
+io_seen arg seen (Some path) = io_seen_if (is_io_arg arg path.name.text.0) seen path.name.text.0
+
+abbrev pub io_passed_twice : (arg : ℕ → Option Sort) → (seen : List ℕ) → List GivenValue → List (Option Refusal)
+io_passed_twice arg seen [] = []
+io_passed_twice arg seen (g ∷ gs) = passed_twice_by_value arg seen (arg_path g.value) ∷ io_passed_twice arg (io_seen arg seen (arg_path g.value)) gs
+
 -- Arguments that are given twice.
 abbrev pub given_twice : List Name → List (Option Refusal)
 given_twice names = doubles_of [] names

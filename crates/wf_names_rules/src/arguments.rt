@@ -12,7 +12,7 @@ ghost use Rattle.wf_names_rules.specs.Passes.{rise_from};
 ghost use Rattle.wf_names_rules.specs.Tables.{args_at, arg_sort_at};
 ghost use Rattle.wf_names_rules.specs.Here.{known_here};
 ghost use Rattle.wf_names_rules.specs.Meanings.{given_values, of_base, parameters_of, is_parameter as has_parameter, lacks_one as lacks, is_io as reads_or_writes};
-ghost use Rattle.wf_names_rules.specs.Judged.{arg_path, arg_path_at, given_twice as are_given_twice, passed_twice_by_value as is_passed_twice, passed_seen, passed_twice as are_passed_twice, unknown_argument as is_unknown_argument, unknown_arguments as are_unknown_arguments, missing_argument as lacks_argument, given_judged};
+ghost use Rattle.wf_names_rules.specs.Judged.{arg_path, arg_path_at, given_twice as are_given_twice, passed_twice_by_value as is_passed_twice, io_seen, passed_twice as are_passed_twice, unknown_argument as is_unknown_argument, unknown_arguments as are_unknown_arguments, missing_argument as lacks_argument, given_judged};
 
 use crate::callees::Callee;
 use crate::here::Here;
@@ -101,7 +101,7 @@ fn as_arg(path: Path) -> Option<Path>
     }
 }
 
-// One value after those that passed the arguments in `seen`, which its own joins.
+// One value after those that passed the readers and writers in `seen`, which its own joins.
 fn passed_twice_by_value(
     tables: &Tables,
     scope: &Scope,
@@ -109,16 +109,15 @@ fn passed_twice_by_value(
     path: Option<Path>,
 ) -> Result<Option<Refusal>, NoMemory>
     ensures item { IfOk result (λ now. now ≡ is_passed_twice (arg_sort_at tables.now scope.now.method) seen.old.keys path) }
-    ensures seen { OnOk result (seen.new.keys ≡ passed_seen seen.old.keys path) }
+    ensures seen { OnOk result (seen.new.keys ≡ io_seen (arg_sort_at tables.now scope.now.method) seen.old.keys path) }
 {
     match path {
         Some(path) => {
+            if !is_io_arg(tables, scope, path.name.text) {
+                return Ok(None);
+            }
             let fresh = seen.insert(path.name.text.0)?;
-            Ok(refused_if(
-                is_io_arg(tables, scope, path.name.text) && !fresh,
-                Rule::N2,
-                path.at,
-            ))
+            Ok(refused_if(!fresh, Rule::N2, path.at))
         }
         None => Ok(None),
     }
