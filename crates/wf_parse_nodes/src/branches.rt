@@ -16,7 +16,6 @@ use wf_ast::parsed::{Arm, Clause, LoopClause, Stmt, StmtNode};
 use wf_text::NoMemory;
 
 /// One arm more of an `if`.
-#[inline(never)]
 pub(crate) fn add_arm(values: &mut Stack<SemanticValue>) -> Result<SemanticValue, NoMemory>
     requires { fits (shapes.Block ∷ shapes.Expr ∷ shapes.Arms ∷ []) values.old ≡ true }
     ensures { IfOk result (λ value. making does.AddArm values.old ≡ record { product = makes.Value value; vals = values.new }) }
@@ -29,7 +28,6 @@ pub(crate) fn add_arm(values: &mut Stack<SemanticValue>) -> Result<SemanticValue
 }
 
 /// The block after a last `else`.
-#[inline(never)]
 pub(crate) fn some_else(values: &mut Stack<SemanticValue>) -> SemanticValue
     requires { fits (shapes.Block ∷ []) values.old ≡ true }
     ensures { making does.SomeElse values.old ≡ record { product = makes.Value result; vals = values.new } }
@@ -39,7 +37,6 @@ pub(crate) fn some_else(values: &mut Stack<SemanticValue>) -> SemanticValue
 }
 
 /// A whole `if`.
-#[inline(never)]
 pub(crate) fn if_stmt(values: &mut Stack<SemanticValue>) -> StmtNode
     requires { fits (shapes.Otherwise ∷ shapes.Arms ∷ shapes.Place ∷ []) values.old ≡ true }
     ensures { making does.IfStmt values.old ≡ record { product = makes.Stmt result; vals = values.new } }
@@ -54,7 +51,6 @@ pub(crate) fn if_stmt(values: &mut Stack<SemanticValue>) -> StmtNode
 }
 
 /// One promise more of a loop.
-#[inline(never)]
 pub(crate) fn add_clause(
     kind: Clause,
     values: &mut Stack<SemanticValue>,
@@ -74,7 +70,6 @@ pub(crate) fn add_clause(
 }
 
 /// A loop without a label.
-#[inline(never)]
 pub(crate) fn loop_stmt(values: &mut Stack<SemanticValue>) -> StmtNode
     requires { fits (shapes.Block ∷ shapes.Clauses ∷ shapes.Expr ∷ shapes.Place ∷ []) values.old ≡ true }
     ensures { making does.LoopStmt values.old ≡ record { product = makes.Stmt result; vals = values.new } }
@@ -95,7 +90,6 @@ pub(crate) fn loop_stmt(values: &mut Stack<SemanticValue>) -> StmtNode
 }
 
 /// A loop with a label.
-#[inline(never)]
 pub(crate) fn labelled_stmt(values: &mut Stack<SemanticValue>) -> StmtNode
     requires { fits (shapes.Block ∷ shapes.Clauses ∷ shapes.Expr ∷ shapes.Name ∷ shapes.Place ∷ []) values.old ≡ true }
     ensures { making does.LabelledStmt values.old ≡ record { product = makes.Stmt result; vals = values.new } }
@@ -117,7 +111,6 @@ pub(crate) fn labelled_stmt(values: &mut Stack<SemanticValue>) -> StmtNode
 }
 
 /// The label of a jump.
-#[inline(never)]
 pub(crate) fn some_label(values: &mut Stack<SemanticValue>) -> SemanticValue
     requires { fits (shapes.Name ∷ []) values.old ≡ true }
     ensures { making does.SomeLabel values.old ≡ record { product = makes.Value result; vals = values.new } }
@@ -127,7 +120,6 @@ pub(crate) fn some_label(values: &mut Stack<SemanticValue>) -> SemanticValue
 }
 
 /// A `break`.
-#[inline(never)]
 pub(crate) fn break_stmt(values: &mut Stack<SemanticValue>) -> StmtNode
     requires { fits (shapes.Label ∷ shapes.Place ∷ []) values.old ≡ true }
     ensures { making does.BreakStmt values.old ≡ record { product = makes.Stmt result; vals = values.new } }
@@ -141,7 +133,6 @@ pub(crate) fn break_stmt(values: &mut Stack<SemanticValue>) -> StmtNode
 }
 
 /// A `continue`.
-#[inline(never)]
 pub(crate) fn continue_stmt(values: &mut Stack<SemanticValue>) -> StmtNode
     requires { fits (shapes.Label ∷ shapes.Place ∷ []) values.old ≡ true }
     ensures { making does.ContinueStmt values.old ≡ record { product = makes.Stmt result; vals = values.new } }

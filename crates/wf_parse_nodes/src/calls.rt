@@ -14,7 +14,6 @@ use wf_ast::parsed::{Call, Given};
 use wf_text::NoMemory;
 
 /// One argument more.
-#[inline(never)]
 pub(crate) fn add_given(values: &mut Stack<SemanticValue>) -> Result<SemanticValue, NoMemory>
     requires { fits (shapes.Expr ∷ shapes.Name ∷ shapes.Givens ∷ []) values.old ≡ true }
     ensures { IfOk result (λ value. making does.AddGiven values.old ≡ record { product = makes.Value value; vals = values.new }) }
@@ -27,7 +26,6 @@ pub(crate) fn add_given(values: &mut Stack<SemanticValue>) -> Result<SemanticVal
 }
 
 /// A whole call.
-#[inline(never)]
 pub(crate) fn finish_call(values: &mut Stack<SemanticValue>) -> SemanticValue
     requires { fits (shapes.Givens ∷ shapes.Mark ∷ shapes.Name ∷ shapes.Receiver ∷ []) values.old ≡ true }
     ensures { making does.FinishCall values.old ≡ record { product = makes.Value result; vals = values.new } }

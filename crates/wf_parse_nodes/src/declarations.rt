@@ -17,7 +17,6 @@ use wf_ast::parsed::{Decl, DeclNode, Field};
 use wf_text::NoMemory;
 
 /// One field more.
-#[inline(never)]
 pub(crate) fn add_field(values: &mut Stack<SemanticValue>) -> Result<SemanticValue, NoMemory>
     requires { fits (shapes.Type ∷ shapes.Name ∷ shapes.Fields ∷ []) values.old ≡ true }
     ensures { IfOk result (λ value. making does.AddField values.old ≡ record { product = makes.Value value; vals = values.new }) }
@@ -30,7 +29,6 @@ pub(crate) fn add_field(values: &mut Stack<SemanticValue>) -> Result<SemanticVal
 }
 
 /// No result of a method.
-#[inline(never)]
 pub(crate) fn no_result(values: &mut Stack<SemanticValue>) -> SemanticValue
     requires { fits (shapes.Prefixes ∷ []) values.old ≡ true }
     ensures { making does.NoResult values.old ≡ record { product = makes.Value result; vals = values.new } }
@@ -40,7 +38,6 @@ pub(crate) fn no_result(values: &mut Stack<SemanticValue>) -> SemanticValue
 }
 
 /// The result of a method.
-#[inline(never)]
 pub(crate) fn some_result(values: &mut Stack<SemanticValue>) -> SemanticValue
     requires { fits (shapes.Type ∷ []) values.old ≡ true }
     ensures { making does.SomeResult values.old ≡ record { product = makes.Value result; vals = values.new } }
@@ -50,7 +47,6 @@ pub(crate) fn some_result(values: &mut Stack<SemanticValue>) -> SemanticValue
 }
 
 /// A status.
-#[inline(never)]
 pub(crate) fn status_decl(values: &mut Stack<SemanticValue>) -> DeclNode
     requires { fits (shapes.Name ∷ shapes.Place ∷ shapes.Public ∷ []) values.old ≡ true }
     ensures { making does.StatusDecl values.old ≡ record { product = makes.Decl result; vals = values.new } }
@@ -66,7 +62,6 @@ pub(crate) fn status_decl(values: &mut Stack<SemanticValue>) -> DeclNode
 }
 
 /// A constant.
-#[inline(never)]
 pub(crate) fn const_decl(values: &mut Stack<SemanticValue>) -> DeclNode
     requires { fits (shapes.Expr ∷ shapes.Type ∷ shapes.Name ∷ shapes.Place ∷ shapes.Public ∷ []) values.old ≡ true }
     ensures { making does.ConstDecl values.old ≡ record { product = makes.Decl result; vals = values.new } }
@@ -84,7 +79,6 @@ pub(crate) fn const_decl(values: &mut Stack<SemanticValue>) -> DeclNode
 }
 
 /// A struct.
-#[inline(never)]
 pub(crate) fn struct_decl(values: &mut Stack<SemanticValue>) -> DeclNode
     requires { fits (shapes.Fields ∷ shapes.Mark ∷ shapes.Name ∷ shapes.Place ∷ shapes.Public ∷ []) values.old ≡ true }
     ensures { making does.StructDecl values.old ≡ record { product = makes.Decl result; vals = values.new } }
@@ -102,7 +96,6 @@ pub(crate) fn struct_decl(values: &mut Stack<SemanticValue>) -> DeclNode
 }
 
 /// A method.
-#[inline(never)]
 pub(crate) fn method_decl(values: &mut Stack<SemanticValue>) -> DeclNode
     requires { fits (shapes.Block ∷ shapes.Result ∷ shapes.Fields ∷ shapes.Mark ∷ shapes.Name ∷ shapes.Name ∷ shapes.Place ∷ shapes.Public ∷ []) values.old ≡ true }
     ensures { making does.MethodDecl values.old ≡ record { product = makes.Decl result; vals = values.new } }

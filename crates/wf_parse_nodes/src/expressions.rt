@@ -19,7 +19,6 @@ use wf_ast::{Op, Sequence};
 use wf_text::{NoMemory, Place};
 
 /// A number.
-#[inline(never)]
 pub(crate) fn number_expr(value: u64, at: Place) -> ExprNode
     ensures { result ≡ record { expr = exprs.Number value; at = at } }
 {
@@ -30,7 +29,6 @@ pub(crate) fn number_expr(value: u64, at: Place) -> ExprNode
 }
 
 /// A status of the package.
-#[inline(never)]
 pub(crate) fn own_status_expr(text: Name) -> ExprNode
     ensures { result ≡ record { expr = exprs.OwnStatus text; at = text.at } }
 {
@@ -41,7 +39,6 @@ pub(crate) fn own_status_expr(text: Name) -> ExprNode
 }
 
 /// `ok`
-#[inline(never)]
 pub(crate) fn fine_expr(at: Place) -> ExprNode
     ensures { result ≡ record { expr = exprs.Fine; at = at } }
 {
@@ -52,7 +49,6 @@ pub(crate) fn fine_expr(at: Place) -> ExprNode
 }
 
 /// `true` or `false`
-#[inline(never)]
 pub(crate) fn truth_expr(value: bool, at: Place) -> ExprNode
     ensures { result ≡ record { expr = exprs.Truth value; at = at } }
 {
@@ -63,7 +59,6 @@ pub(crate) fn truth_expr(value: bool, at: Place) -> ExprNode
 }
 
 /// A status of the language.
-#[inline(never)]
 pub(crate) fn base_status_expr(values: &mut Stack<SemanticValue>) -> ExprNode
     requires { fits (shapes.Name ∷ shapes.Place ∷ []) values.old ≡ true }
     ensures { making does.BaseStatusExpr values.old ≡ record { product = makes.Expr result; vals = values.new } }
@@ -77,7 +72,6 @@ pub(crate) fn base_status_expr(values: &mut Stack<SemanticValue>) -> ExprNode
 }
 
 /// A path as an operand.
-#[inline(never)]
 pub(crate) fn path_expr(values: &mut Stack<SemanticValue>) -> ExprNode
     requires { fits (shapes.Path ∷ []) values.old ≡ true }
     ensures { making does.PathExpr values.old ≡ record { product = makes.Expr result; vals = values.new } }
@@ -90,7 +84,6 @@ pub(crate) fn path_expr(values: &mut Stack<SemanticValue>) -> ExprNode
 }
 
 /// An index.
-#[inline(never)]
 pub(crate) fn index_expr(values: &mut Stack<SemanticValue>) -> ExprNode
     requires { fits (shapes.Expr ∷ shapes.Place ∷ shapes.Path ∷ []) values.old ≡ true }
     ensures { making does.IndexExpr values.old ≡ record { product = makes.Expr result; vals = values.new } }
@@ -105,7 +98,6 @@ pub(crate) fn index_expr(values: &mut Stack<SemanticValue>) -> ExprNode
 }
 
 /// A slice.
-#[inline(never)]
 pub(crate) fn slice_expr(values: &mut Stack<SemanticValue>) -> ExprNode
     requires { fits (shapes.Part ∷ shapes.Part ∷ shapes.Place ∷ shapes.Path ∷ []) values.old ≡ true }
     ensures { making does.SliceExpr values.old ≡ record { product = makes.Expr result; vals = values.new } }
@@ -121,7 +113,6 @@ pub(crate) fn slice_expr(values: &mut Stack<SemanticValue>) -> ExprNode
 }
 
 /// A call as an operand.
-#[inline(never)]
 pub(crate) fn call_expr(values: &mut Stack<SemanticValue>) -> ExprNode
     requires { fits (shapes.Call ∷ []) values.old ≡ true }
     ensures { making does.CallExpr values.old ≡ record { product = makes.Expr result; vals = values.new } }
@@ -135,7 +126,6 @@ pub(crate) fn call_expr(values: &mut Stack<SemanticValue>) -> ExprNode
 }
 
 /// A negation.
-#[inline(never)]
 pub(crate) fn not_expr(values: &mut Stack<SemanticValue>) -> ExprNode
     requires { fits (shapes.Expr ∷ shapes.Place ∷ []) values.old ≡ true }
     ensures { making does.NotExpr values.old ≡ record { product = makes.Expr result; vals = values.new } }
@@ -149,7 +139,6 @@ pub(crate) fn not_expr(values: &mut Stack<SemanticValue>) -> ExprNode
 }
 
 /// A conversion.
-#[inline(never)]
 pub(crate) fn convert_expr(values: &mut Stack<SemanticValue>) -> ExprNode
     requires { fits (shapes.Type ∷ shapes.Place ∷ shapes.Expr ∷ []) values.old ≡ true }
     ensures { making does.ConvertExpr values.old ≡ record { product = makes.Expr result; vals = values.new } }
@@ -164,7 +153,6 @@ pub(crate) fn convert_expr(values: &mut Stack<SemanticValue>) -> ExprNode
 }
 
 /// A chain with its first operand.
-#[inline(never)]
 pub(crate) fn start_chain(
     alloc: Global,
     op: Op,
@@ -184,7 +172,6 @@ pub(crate) fn start_chain(
 }
 
 /// One operand more of a chain.
-#[inline(never)]
 pub(crate) fn add_link(values: &mut Stack<SemanticValue>) -> Result<SemanticValue, NoMemory>
     requires { fits (shapes.Expr ∷ shapes.Place ∷ shapes.Chain ∷ []) values.old ≡ true }
     ensures { IfOk result (λ value. making does.AddLink values.old ≡ record { product = makes.Value value; vals = values.new }) }
@@ -203,7 +190,6 @@ pub(crate) fn add_link(values: &mut Stack<SemanticValue>) -> Result<SemanticValu
 }
 
 /// A whole chain.
-#[inline(never)]
 pub(crate) fn finish_chain(values: &mut Stack<SemanticValue>) -> ExprNode
     requires { fits (shapes.Chain ∷ []) values.old ≡ true }
     ensures { making does.FinishChain values.old ≡ record { product = makes.Expr result; vals = values.new } }
@@ -220,7 +206,6 @@ pub(crate) fn finish_chain(values: &mut Stack<SemanticValue>) -> ExprNode
 }
 
 /// An expression that might be absent.
-#[inline(never)]
 pub(crate) fn some_part(values: &mut Stack<SemanticValue>) -> SemanticValue
     requires { fits (shapes.Expr ∷ []) values.old ≡ true }
     ensures { making does.SomePart values.old ≡ record { product = makes.Value result; vals = values.new } }

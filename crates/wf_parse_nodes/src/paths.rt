@@ -14,7 +14,6 @@ use wf_ast::parsed::{Path, Receiver, Root};
 use wf_text::NoMemory;
 
 /// A name after `this` and a dot.
-#[inline(never)]
 pub(crate) fn this_path(values: &mut Stack<SemanticValue>) -> SemanticValue
     requires { fits (shapes.Name ∷ shapes.Place ∷ []) values.old ≡ true }
     ensures { making does.ThisPath values.old ≡ record { product = makes.Value result; vals = values.new } }
@@ -29,7 +28,6 @@ pub(crate) fn this_path(values: &mut Stack<SemanticValue>) -> SemanticValue
 }
 
 /// A name after `args` and a dot.
-#[inline(never)]
 pub(crate) fn args_path(values: &mut Stack<SemanticValue>) -> SemanticValue
     requires { fits (shapes.Name ∷ shapes.Place ∷ []) values.old ≡ true }
     ensures { making does.ArgsPath values.old ≡ record { product = makes.Value result; vals = values.new } }
@@ -44,7 +42,6 @@ pub(crate) fn args_path(values: &mut Stack<SemanticValue>) -> SemanticValue
 }
 
 /// A path that a call is made on.
-#[inline(never)]
 pub(crate) fn path_receiver(values: &mut Stack<SemanticValue>) -> SemanticValue
     requires { fits (shapes.Path ∷ []) values.old ≡ true }
     ensures { making does.PathReceiver values.old ≡ record { product = makes.Value result; vals = values.new } }
@@ -54,7 +51,6 @@ pub(crate) fn path_receiver(values: &mut Stack<SemanticValue>) -> SemanticValue
 }
 
 /// `this` that a call is made on, below the method's name.
-#[inline(never)]
 pub(crate) fn this_method(values: &mut Stack<SemanticValue>) -> Result<SemanticValue, NoMemory>
     requires { fits (shapes.Name ∷ shapes.Place ∷ []) values.old ≡ true }
     ensures { IfOk result (λ value. making does.ThisMethod values.old ≡ record { product = makes.Value value; vals = values.new }) }

@@ -1,5 +1,4 @@
-// Taking a value of a known shape from the top of the stack. Where the values are made into one thing each function stays
-// a call of its own: one that takes in the others would clear the room for the values of all of them whenever it begins.
+// Taking a value of a known shape from the top of the stack.
 
 ghost use Rattle.std.specs.Prelude.{◌≡◌, ◌<◌, [], ◌∷◌, true};
 ghost use Rattle.wf_parse_nodes.specs.Shapes.{fits};

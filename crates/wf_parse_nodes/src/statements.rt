@@ -17,7 +17,6 @@ use wf_ast::parsed::{Block, Stmt, StmtNode, Target, Via};
 use wf_text::{NoMemory, Place};
 
 /// One statement more of a block.
-#[inline(never)]
 pub(crate) fn add_stmt(values: &mut Stack<SemanticValue>) -> Result<SemanticValue, NoMemory>
     requires { fits (shapes.Stmt ∷ shapes.Items ∷ []) values.old ≡ true }
     ensures { IfOk result (λ value. making does.AddStmt values.old ≡ record { product = makes.Value value; vals = values.new }) }
@@ -29,7 +28,6 @@ pub(crate) fn add_stmt(values: &mut Stack<SemanticValue>) -> Result<SemanticValu
 }
 
 /// A whole block.
-#[inline(never)]
 pub(crate) fn close_block(close: Place, values: &mut Stack<SemanticValue>) -> SemanticValue
     requires { fits (shapes.Items ∷ []) values.old ≡ true }
     ensures { making (does.CloseBlock close) values.old ≡ record { product = makes.Value result; vals = values.new } }
@@ -39,7 +37,6 @@ pub(crate) fn close_block(close: Place, values: &mut Stack<SemanticValue>) -> Se
 }
 
 /// A declaration of a local.
-#[inline(never)]
 pub(crate) fn var_stmt(values: &mut Stack<SemanticValue>) -> StmtNode
     requires { fits (shapes.Type ∷ shapes.Name ∷ shapes.Place ∷ []) values.old ≡ true }
     ensures { making does.VarStmt values.old ≡ record { product = makes.Stmt result; vals = values.new } }
@@ -54,7 +51,6 @@ pub(crate) fn var_stmt(values: &mut Stack<SemanticValue>) -> StmtNode
 }
 
 /// A path that is written to.
-#[inline(never)]
 pub(crate) fn path_target(values: &mut Stack<SemanticValue>) -> SemanticValue
     requires { fits (shapes.Path ∷ []) values.old ≡ true }
     ensures { making does.PathTarget values.old ≡ record { product = makes.Value result; vals = values.new } }
@@ -64,7 +60,6 @@ pub(crate) fn path_target(values: &mut Stack<SemanticValue>) -> SemanticValue
 }
 
 /// An element that is written to.
-#[inline(never)]
 pub(crate) fn element_target(values: &mut Stack<SemanticValue>) -> SemanticValue
     requires { fits (shapes.Expr ∷ shapes.Place ∷ shapes.Path ∷ []) values.old ≡ true }
     ensures { making does.ElementTarget values.old ≡ record { product = makes.Value result; vals = values.new } }
@@ -76,7 +71,6 @@ pub(crate) fn element_target(values: &mut Stack<SemanticValue>) -> SemanticValue
 }
 
 /// An assignment.
-#[inline(never)]
 pub(crate) fn assign_stmt(values: &mut Stack<SemanticValue>) -> StmtNode
     requires { fits (shapes.Expr ∷ shapes.Sign ∷ shapes.Target ∷ shapes.Place ∷ []) values.old ≡ true }
     ensures { making does.AssignStmt values.old ≡ record { product = makes.Stmt result; vals = values.new } }
@@ -97,7 +91,6 @@ pub(crate) fn assign_stmt(values: &mut Stack<SemanticValue>) -> StmtNode
 }
 
 /// An assignment by `=?`.
-#[inline(never)]
 pub(crate) fn keep_stmt(values: &mut Stack<SemanticValue>) -> StmtNode
     requires { fits (shapes.Call ∷ shapes.Target ∷ shapes.Place ∷ []) values.old ≡ true }
     ensures { making does.KeepStmt values.old ≡ record { product = makes.Stmt result; vals = values.new } }
@@ -112,7 +105,6 @@ pub(crate) fn keep_stmt(values: &mut Stack<SemanticValue>) -> StmtNode
 }
 
 /// A call as a statement.
-#[inline(never)]
 pub(crate) fn call_stmt(values: &mut Stack<SemanticValue>) -> StmtNode
     requires { fits (shapes.Call ∷ shapes.Place ∷ []) values.old ≡ true }
     ensures { making does.CallStmt values.old ≡ record { product = makes.Stmt result; vals = values.new } }
@@ -126,7 +118,6 @@ pub(crate) fn call_stmt(values: &mut Stack<SemanticValue>) -> StmtNode
 }
 
 /// A `return`.
-#[inline(never)]
 pub(crate) fn return_stmt(values: &mut Stack<SemanticValue>) -> StmtNode
     requires { fits (shapes.Part ∷ shapes.Place ∷ []) values.old ≡ true }
     ensures { making does.ReturnStmt values.old ≡ record { product = makes.Stmt result; vals = values.new } }
@@ -140,7 +131,6 @@ pub(crate) fn return_stmt(values: &mut Stack<SemanticValue>) -> StmtNode
 }
 
 /// A `yield`.
-#[inline(never)]
 pub(crate) fn yield_stmt(values: &mut Stack<SemanticValue>) -> StmtNode
     requires { fits (shapes.Expr ∷ shapes.Place ∷ []) values.old ≡ true }
     ensures { making does.YieldStmt values.old ≡ record { product = makes.Stmt result; vals = values.new } }
@@ -154,7 +144,6 @@ pub(crate) fn yield_stmt(values: &mut Stack<SemanticValue>) -> StmtNode
 }
 
 /// An axiom with what is given to it.
-#[inline(never)]
 pub(crate) fn some_via(values: &mut Stack<SemanticValue>) -> SemanticValue
     requires { fits (shapes.Givens ∷ shapes.Name ∷ []) values.old ≡ true }
     ensures { making does.SomeVia values.old ≡ record { product = makes.Value result; vals = values.new } }
@@ -165,7 +154,6 @@ pub(crate) fn some_via(values: &mut Stack<SemanticValue>) -> SemanticValue
 }
 
 /// An assertion.
-#[inline(never)]
 pub(crate) fn assert_stmt(values: &mut Stack<SemanticValue>) -> StmtNode
     requires { fits (shapes.Via ∷ shapes.Expr ∷ shapes.Place ∷ []) values.old ≡ true }
     ensures { making does.AssertStmt values.old ≡ record { product = makes.Stmt result; vals = values.new } }

@@ -24,7 +24,6 @@ fn closed_core(core: OpenCore) -> Core
 }
 
 /// `slice` before a type.
-#[inline(never)]
 pub(crate) fn add_slice(
     at: Place,
     values: &mut Stack<SemanticValue>,
@@ -38,7 +37,6 @@ pub(crate) fn add_slice(
 }
 
 /// `array` with a length before a type.
-#[inline(never)]
 pub(crate) fn add_array(values: &mut Stack<SemanticValue>) -> Result<SemanticValue, NoMemory>
     requires { fits (shapes.Expr ∷ shapes.Place ∷ shapes.Prefixes ∷ []) values.old ≡ true }
     ensures { IfOk result (λ value. making does.AddArray values.old ≡ record { product = makes.Value value; vals = values.new }) }
@@ -51,7 +49,6 @@ pub(crate) fn add_array(values: &mut Stack<SemanticValue>) -> Result<SemanticVal
 }
 
 /// A type that ends with the name of a struct.
-#[inline(never)]
 pub(crate) fn struct_type(name: Name, values: &mut Stack<SemanticValue>) -> SemanticValue
     requires { fits (shapes.Prefixes ∷ []) values.old ≡ true }
     ensures { making (does.StructType name) values.old ≡ record { product = makes.Value result; vals = values.new } }
@@ -65,7 +62,6 @@ pub(crate) fn struct_type(name: Name, values: &mut Stack<SemanticValue>) -> Sema
 }
 
 /// A type of the language, by its name.
-#[inline(never)]
 pub(crate) fn base_core(name: Name, values: &mut Stack<SemanticValue>) -> SemanticValue
     requires { fits (shapes.Place ∷ []) values.old ≡ true }
     ensures { making (does.BaseCore name) values.old ≡ record { product = makes.Value result; vals = values.new } }
@@ -75,7 +71,6 @@ pub(crate) fn base_core(name: Name, values: &mut Stack<SemanticValue>) -> Semant
 }
 
 /// The type of statuses.
-#[inline(never)]
 pub(crate) fn status_core(values: &mut Stack<SemanticValue>) -> SemanticValue
     requires { fits (shapes.Place ∷ []) values.old ≡ true }
     ensures { making does.StatusCore values.old ≡ record { product = makes.Value result; vals = values.new } }
@@ -85,7 +80,6 @@ pub(crate) fn status_core(values: &mut Stack<SemanticValue>) -> SemanticValue
 }
 
 /// The bounds of a refined type.
-#[inline(never)]
 pub(crate) fn some_bounds(values: &mut Stack<SemanticValue>) -> SemanticValue
     requires { fits (shapes.Expr ∷ shapes.Part ∷ []) values.old ≡ true }
     ensures { making does.SomeBounds values.old ≡ record { product = makes.Value result; vals = values.new } }
@@ -96,7 +90,6 @@ pub(crate) fn some_bounds(values: &mut Stack<SemanticValue>) -> SemanticValue
 }
 
 /// A type that ends with a type of the language.
-#[inline(never)]
 pub(crate) fn finish_type(values: &mut Stack<SemanticValue>) -> SemanticValue
     requires { fits (shapes.Bounds ∷ shapes.Core ∷ shapes.Prefixes ∷ []) values.old ≡ true }
     ensures { making does.FinishType values.old ≡ record { product = makes.Value result; vals = values.new } }
