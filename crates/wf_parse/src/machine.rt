@@ -114,8 +114,9 @@ fn answer_at_once(symbol: Sym, kind: Kind) -> Option<bool>
             _ => None,
         },
         Kind::CloseRound => match symbol {
-            Sym::RightRound | Sym::Fields | Sym::MoreFields | Sym::Givens | Sym::MoreGivens =>
-                Some(true),
+            Sym::RightRound | Sym::Fields | Sym::MoreFields | Sym::Givens | Sym::MoreGivens => Some(
+                true,
+            ),
             Sym::Rest | Sym::End | Sym::Links(_) | Sym::PathAtom | Sym::BoundsPart => Some(false),
             _ => None,
         },
