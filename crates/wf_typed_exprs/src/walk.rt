@@ -1,6 +1,6 @@
 // The walk over expressions: it makes the nodes of each, parts before their whole, and tells what it means.
 
-ghost use Rattle.std.specs.Prelude.{◌≡◌, ◌<◌, ◌+◌, ◌++◌, ◌∷◌, [], true, length, IfOk, OnOk};
+ghost use Rattle.std.specs.Prelude.{◌≡◌, ◌<◌, ◌+◌, ◌++◌, ◌∷◌, [], true, length, IfOk, IfSome, OnOk};
 ghost use Rattle.wf_ast.specs.ParsedParts.{IsBelow, LinksBelow};
 ghost use Rattle.wf_ast.specs.TypedTrees.{tree_of, made_or_number};
 ghost use Rattle.wf_ast.specs.TypedInvariant.{parts_below, node_fits};
@@ -19,7 +19,7 @@ ghost use Rattle.wf_typed_exprs.specs.Right.{IsRight, IsRightPath, IsRightAnswer
 use crate::building::Building;
 use crate::elaborated::{Elaborated, MadeNode};
 use crate::forms::{node_of, path_node, plain_width, type_meant, unsigned, value_of};
-use crate::operands::MadeOperands;
+use crate::operands::{MadeOperands, pair_node};
 use crate::typed_exprs::TypedExpr;
 use wf_ast::parsed::Link;
 use wf_ast::{Expr, ExprId, Op, Ty};
@@ -297,6 +297,16 @@ fn elaborate_answer(
     }
 }
 
+// The link behind a chain's first operand, where it is the only one.
+fn only_link(links: &[Link]) -> Option<Link>
+    ensures { IfSome result (λ link. links.now ≡ link ∷ []) }
+{
+    match links {
+        [link] => Some(*link),
+        _ => None,
+    }
+}
+
 // A chain of operands.
 #[cycle(elaborate_exprs)]
 fn elaborate_chain(
@@ -314,8 +324,36 @@ fn elaborate_chain(
     ensures entries { OnOk result (AddsEntries nodes.old nodes.new (part_entries here.now.around.now (tree.chain op (expr_at (exprs_of here.now.nodes.now) first) (links_at (exprs_of here.now.nodes.now) links.now) at))) }
     ensures made { IfOk result (λ n. MakesExpr here.now.around.now (tree.chain op (expr_at (exprs_of here.now.nodes.now) first) (links_at (exprs_of here.now.nodes.now) links.now) at) nodes.new n) }
 {
-    let operands = elaborate_operands(here, nodes, first, links)?;
-    Ok(operands.chain(op, at))
+    match only_link(links) {
+        Some(link) => elaborate_pair(here, nodes, op, first, link, at),
+        None => {
+            let operands = elaborate_operands(here, nodes, first, links)?;
+            Ok(operands.chain(op, at))
+        }
+    }
+}
+
+// A chain of two operands, which needs no lists that grow.
+#[cycle(elaborate_exprs)]
+fn elaborate_pair(
+    here: &Here<'_>,
+    nodes: &mut Building,
+    op: Op,
+    first: ExprId,
+    link: Link,
+    at: Place,
+) -> Result<MadeNode, NoMemory>
+    requires first { first.0 < length here.now.nodes.now.exprs }
+    requires link { link.operand.0 < length here.now.nodes.now.exprs }
+    requires right { IsRight here.now.around.now (length nodes.old.statuses) (tree.chain op (expr_at (exprs_of here.now.nodes.now) first) (links_at (exprs_of here.now.nodes.now) (link ∷ [])) at) }
+    ensures grows { OnOk result (Grows nodes.old nodes.new) }
+    ensures entries { OnOk result (AddsEntries nodes.old nodes.new (part_entries here.now.around.now (tree.chain op (expr_at (exprs_of here.now.nodes.now) first) (links_at (exprs_of here.now.nodes.now) (link ∷ [])) at))) }
+    ensures made { IfOk result (λ n. MakesExpr here.now.around.now (tree.chain op (expr_at (exprs_of here.now.nodes.now) first) (links_at (exprs_of here.now.nodes.now) (link ∷ [])) at) nodes.new n) }
+{
+    let a = elaborate_expr(here, nodes, first)?;
+    let b = elaborate_expr(here, nodes, link.operand)?;
+    let made = pair_node(here.alloc, op, a, b, link.sign, at)?;
+    Ok(made)
 }
 
 // The operands of a chain.

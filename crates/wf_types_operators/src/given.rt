@@ -80,8 +80,8 @@ fn computed(op: Op, os: &[Operand]) -> Option<Meaning>
     }
 }
 
-// What an operator gives of operands that it takes.
-fn given(op: Op, os: &[Operand]) -> Option<Meaning>
+/// What an operator gives of operands that it takes.
+pub fn given(op: Op, os: &[Operand]) -> Option<Meaning>
     ensures { result ≡ gives (operator_kind op) os.now }
 {
     match op {

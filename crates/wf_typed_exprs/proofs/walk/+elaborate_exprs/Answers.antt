@@ -13,7 +13,7 @@ use Rattle.wf_typed_exprs.proofs.FormLaws.{value-makes, index-right, index-makes
 use Rattle.wf_typed_exprs.proofs.ChainLaws.{chain-right, chain-makes}
 use Rattle.wf_typed_exprs.proofs.EntryLemmas.{adds_then, made_adds, entries_next}
 use Rattle.wf_typed_exprs.proofs.GrowthLemmas.{grows_more, stands_kept}
-use Rattle.wf_typed_exprs.proofs.WalkLemmas.{right_kept, end_right_kept, link_right, left_next}
+use Rattle.wf_typed_exprs.proofs.WalkLemmas.{right_kept, end_right_kept, link_right, left_next, pair_makes, pair_adds}
 use Rattle.wf_typed_exprs.proofs.walk.+elaborate_exprs.Goals as goal
 
 pub elaborate_chain-elaborate_operands-requires : goal.elaborate_chain-elaborate_operands-requires
@@ -22,14 +22,58 @@ elaborate_chain-elaborate_operands-requires t c =
     let parts = chain-right c.args.here.now.around.now c.args.nodes.now (length c.args.nodes.now.statuses) c.args.op (expr_at es c.args.first) (links_at es c.args.links.now) c.args.at c.requires.right in
     (omega (arith, c.decreases), (c.requires.first, (c.requires.links, (parts.0, parts.1))))
 
-pub elaborate_chain-returns-clause-made : goal.elaborate_chain-returns-clause-made
-elaborate_chain-returns-clause-made t c =
+pub elaborate_chain-elaborate_pair-requires : goal.elaborate_chain-elaborate_pair-requires
+elaborate_chain-elaborate_pair-requires t c =
+    let one = c.in-Some.ensures in
+    let below = rw one at c.requires.links in
+    (omega (arith, rw one at c.decreases), (c.requires.first, (below.0, rw one at c.requires.right)))
+
+pub elaborate_chain-returns-in-Some-clause-entries : goal.elaborate_chain-returns-in-Some-clause-entries
+elaborate_chain-returns-in-Some-clause-entries t c = rw c.in-Some.ensures c.elaborate_pair.ensures.entries
+
+pub elaborate_chain-returns-in-Some-clause-made : goal.elaborate_chain-returns-in-Some-clause-made
+elaborate_chain-returns-in-Some-clause-made t c = rw c.in-Some.ensures c.elaborate_pair.ensures.made
+
+pub elaborate_chain-returns-in_ok-operands-in-None-clause-made : goal.elaborate_chain-returns-in_ok-operands-in-None-clause-made
+elaborate_chain-returns-in_ok-operands-in-None-clause-made t c =
     let s = c.args.here.now.around.now in
     let es = expr_trees c.args.here.now.nodes.now.exprs in
     let nodes = c.elaborate_operands.new.nodes in
+    let made = c.in_ok-operands-in-None in
     let whole = chain c.args.op (expr_at es c.args.first) (links_at es c.args.links.now) c.args.at in
     rw c.chain.ensures
-    (chain-makes s nodes c.args.op (expr_at es c.args.first) (links_at es c.args.links.now) c.args.at c.in_ok-operands.operands (right_kept s c.args.nodes.now nodes c.in_ok-operands.ensures.grows whole c.requires.right) c.in_ok-operands.ensures.all)
+    (chain-makes s nodes c.args.op (expr_at es c.args.first) (links_at es c.args.links.now) c.args.at made.operands (right_kept s c.args.nodes.now nodes made.ensures.grows whole c.requires.right) made.ensures.all)
+
+pub elaborate_pair-elaborate_expr-requires : goal.elaborate_pair-elaborate_expr-requires
+elaborate_pair-elaborate_expr-requires t c =
+    let es = expr_trees c.args.here.now.nodes.now.exprs in
+    let parts = chain-right c.args.here.now.around.now c.args.nodes.now (length c.args.nodes.now.statuses) c.args.op (expr_at es c.args.first) (links_at es (c.args.link ∷ [])) c.args.at c.requires.right in
+    (omega (arith, c.decreases), (c.requires.first, parts.0))
+
+pub elaborate_pair-elaborate_expr-requires-2 : goal.elaborate_pair-elaborate_expr-requires-2
+elaborate_pair-elaborate_expr-requires-2 t c =
+    let s = c.args.here.now.around.now in
+    let es = expr_trees c.args.here.now.nodes.now.exprs in
+    let parts = chain-right s c.args.nodes.now (length c.args.nodes.now.statuses) c.args.op (expr_at es c.args.first) (links_at es (c.args.link ∷ [])) c.args.at c.requires.right in
+    (omega (arith, c.decreases), (c.requires.link, right_kept s c.args.nodes.now c.elaborate_expr.new.nodes c.in_ok-a.ensures.grows (expr_at es c.args.link.operand) parts.1.0))
+
+pub elaborate_pair-returns-clause-entries : goal.elaborate_pair-returns-clause-entries
+elaborate_pair-returns-clause-entries t c =
+    let es = expr_trees c.args.here.now.nodes.now.exprs in
+    pair_adds c.args.here.now.around.now c.args.nodes.now c.elaborate_expr.new.nodes c.elaborate_expr-2.new.nodes c.args.op (expr_at es c.args.first) (expr_at es c.args.link.operand) c.args.link.sign c.args.at
+    c.in_ok-a.a c.in_ok-b.b c.in_ok-a.ensures.entries c.in_ok-b.ensures.entries
+
+pub elaborate_pair-returns-clause-made : goal.elaborate_pair-returns-clause-made
+elaborate_pair-returns-clause-made t c =
+    let s = c.args.here.now.around.now in
+    let es = expr_trees c.args.here.now.nodes.now.exprs in
+    let mid = c.elaborate_expr.new.nodes in
+    let after = c.elaborate_expr-2.new.nodes in
+    let all = grows_more c.args.nodes.now mid after c.in_ok-a.ensures.grows c.in_ok-b.ensures.grows in
+    let right = right_kept s c.args.nodes.now after all (chain c.args.op (expr_at es c.args.first) (links_at es (c.args.link ∷ [])) c.args.at) c.requires.right in
+    rw c.in_ok-made.ensures
+    (pair_makes s c.args.nodes.now mid after c.args.op (expr_at es c.args.first) (expr_at es c.args.link.operand) c.args.link.sign c.args.at c.in_ok-a.a c.in_ok-b.b
+    c.in_ok-b.ensures.grows right c.in_ok-a.ensures.stands c.in_ok-b.ensures.stands c.in_ok-a.ensures.value c.in_ok-b.ensures.value)
 
 pub elaborate_convert-elaborate_expr-requires : goal.elaborate_convert-elaborate_expr-requires
 elaborate_convert-elaborate_expr-requires t c =

@@ -25,7 +25,10 @@ abbrev pub decreases-elaborate_end : goal.decreases-elaborate_end
 decreases-elaborate_end l = 16 * above_part l.end
 
 abbrev pub decreases-elaborate_chain : goal.decreases-elaborate_chain
-decreases-elaborate_chain l = 16 * max (l.first.0 + 1) (above_links l.links.now) + 2
+decreases-elaborate_chain l = 16 * max (l.first.0 + 1) (above_links l.links.now) + 3
+
+abbrev pub decreases-elaborate_pair : goal.decreases-elaborate_pair
+decreases-elaborate_pair l = 16 * max (l.first.0 + 1) (l.link.operand.0 + 1) + 2
 
 abbrev pub decreases-elaborate_operands : goal.decreases-elaborate_operands
 decreases-elaborate_operands l = 16 * max (l.first.0 + 1) (above_links l.links.now) + 1
