@@ -47,6 +47,7 @@ pub fn uint_of(width: Width) -> CUint
 }
 
 /// The number of an expression whose parts the unit has. What is without operands may be there already.
+#[inline(always)]
 pub fn put(u: &mut Unit, x: CExpr) -> Result<CExprId, NoMemory>
     requires { FitsExpr u.old (length u.old.exprs) x }
     ensures grows { Grows u.old u.new }
