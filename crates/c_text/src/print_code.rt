@@ -120,16 +120,23 @@ fn braces<P: Pen>(u: &Unit, inner: CStmtId, depth: usize, pen: &mut P)
 
 /// Prints a word with its opening parenthesis, a condition and a block.
 #[cycle(print_code)]
-fn tested_block<P: Pen>(u: &Unit, head: (&[u8], CExprId), body: CStmtId, depth: usize, pen: &mut P)
-    requires test { head.1.0 < length u.now.exprs }
+fn tested_block<P: Pen>(
+    u: &Unit,
+    head: &[u8],
+    test: CExprId,
+    body: CStmtId,
+    depth: usize,
+    pen: &mut P,
+)
+    requires test { test.0 < length u.now.exprs }
     requires has { body.0 < length u.now.stmts }
     requires depth { depth + 1 + body.0 < 2 ^ 64 }
     requires ready { P.ready pen.old }
     ensures ready { P.ready pen.new }
-    ensures writes { P.writes pen.old pen.new (tested head.entry.0.now (expr_of u.now head.entry.1.0) (code_text (code_of u.now body.0)) depth) }
+    ensures writes { P.writes pen.old pen.new (tested head.now (expr_of u.now test.0) (code_text (code_of u.now body.0)) depth) }
 {
-    pen.write(head.0);
-    expr(u, head.1, pen);
+    pen.write(head);
+    expr(u, test, pen);
     pen.write(b") ");
     braces(u, body, depth, pen);
 }
@@ -177,7 +184,7 @@ fn branch_arm<P: Pen>(u: &Unit, s: CStmtId, depth: usize, pen: &mut P) -> Option
     let Some((test, body, otherwise, other)) = if_parts(u, s) else {
         return None;
     };
-    tested_block(u, (b"if (", test), body, depth, pen);
+    tested_block(u, b"if (", test, body, depth, pen);
     match otherwise {
         Otherwise::Nothing => None,
         Otherwise::Block => {
@@ -233,12 +240,12 @@ fn line<P: Pen>(u: &Unit, s: CStmtId, depth: usize, pen: &mut P) -> CStmtId
             *rest
         }
         CStmt::While { test, body, rest } => {
-            tested_block(u, (b"while (", *test), *body, depth, pen);
+            tested_block(u, b"while (", *test, *body, depth, pen);
             pen.write(b"\n");
             *rest
         }
         CStmt::Switch { on, body, rest } => {
-            tested_block(u, (b"switch (", *on), *body, depth, pen);
+            tested_block(u, b"switch (", *on, *body, depth, pen);
             pen.write(b"\n");
             *rest
         }
