@@ -26,7 +26,11 @@ const SPREAD: usize = 0x9E37_79B9_7F4A_7C15;
 pub(crate) fn place_of(first: &[u8], second: &[u8], third: &[u8], fourth: &[u8]) -> usize {
     let front = tail(first) << 32 | tail(second);
     let back = tail(third) << 32 | tail(fourth);
-    front.wrapping_mul(31).wrapping_add(back).wrapping_mul(SPREAD) >> 48
+    front
+        .wrapping_mul(31)
+        .wrapping_add(back)
+        .wrapping_mul(SPREAD)
+        >> 48
 }
 
 /// What follows the word at the front of a name, if it stands there.
