@@ -48,6 +48,12 @@ pub read_added : (flags : List Bool) (a : Nodes) (ps qs : List CLocal) (l : Loca
 read_added flags a ps qs l (Ok u) tells h = λ code reads. adds_as a a ps qs (l ∷ []) (only_read code (l ∷ [])) (first_of (code_reads l.name code) (l ∷ []) [] (tells (λ name. code_reads name code) reads)) h
 read_added flags a ps qs l (Err refused) tells h = h
 
+-- The same where the unit grows by the local.
+pub read_grown : (flags : List Bool) (a b : Nodes) (ps qs : List CLocal) (l : LocalTree) (r : Result (Unit {0}) NoMemory)
+    → ((reads : List ℕ → Bool) → AreThose reads a.names flags → true ≡ reads l.name) → OnOk r (AddsLocals a b ps qs (l ∷ [])) → OnOk r (AddsRead flags a b ps qs (l ∷ []))
+read_grown flags a b ps qs l (Ok u) tells h = λ code reads. adds_as a b ps qs (l ∷ []) (only_read code (l ∷ [])) (first_of (code_reads l.name code) (l ∷ []) [] (tells (λ name. code_reads name code) reads)) h
+read_grown flags a b ps qs l (Err refused) tells h = h
+
 pub unread_left : (flags : List Bool) (a : Nodes) (ps : List CLocal) (l : LocalTree)
     → ((reads : List ℕ → Bool) → AreThose reads a.names flags → false ≡ reads l.name) → AddsRead flags a a ps ps (l ∷ [])
 unread_left flags a ps l tells = λ code reads. no_locals_as ps (only_read code (l ∷ [])) (second_of (code_reads l.name code) (l ∷ []) [] (tells (λ name. code_reads name code) reads)) (unchanged a a refl)

@@ -24,7 +24,7 @@ ghost use Rattle.wf_lower.specs.Locals.{answer_locals, bytes_in, place_locals, s
 use crate::declaring::{local, zero_local, zero_spelt};
 use c_text::{CExprId, CList, CLocal, CType, CUint, Unit};
 use wf_ast::{Ty, Var};
-use wf_exprs::names::put_spelt;
+use wf_exprs::names::{put_name, put_spelt};
 use wf_exprs::nodes::uint_of;
 use wf_exprs_nodes::marks::ReadNames;
 use wf_lower_stmts::Body;
@@ -210,7 +210,7 @@ fn add_where_read(
     }
 }
 
-/// A further local, where the code reads it.
+/// A further local, where the code reads it: its value is only put where it is added.
 fn add_read(
     u: &mut Unit,
     read: &ReadNames,
@@ -223,8 +223,13 @@ fn add_read(
     ensures grows { Grows u.old u.new }
     ensures made { OnOk result (AddsRead read.now u.old u.new locals.old locals.new (declared (type_in u.old.names kind) name.now (num 0) ∷ [])) }
 {
-    let local = zero_local(u, kind, name)?;
-    add_where_read(u, read, local, locals)
+    let known = put_name(u, name)?;
+    if read.has(u, known) {
+        let local = zero_local(u, kind, name)?;
+        locals.push(local)
+    } else {
+        Ok(())
+    }
 }
 
 /// The pointer to the bytes of a reader or a writer.
