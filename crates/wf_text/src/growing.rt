@@ -7,8 +7,8 @@ use std::alloc::AllocError;
 /// How many items make a list long.
 const MANY: usize = 64;
 
-/// Makes room for three times as many items again where the list is long, and for one where it isn't. On `Err` there is
-/// as much as before.
+/// Makes room for three times as many items again where the list is long, for one alone where it is empty, as lists of one
+/// item are the most, and for some where it is neither. On `Err` there is as much as before.
 #[inline(never)]
 fn widen<T>(list: &mut Vec<T>) -> Result<(), AllocError>
     ensures items { list.new.items ≡ list.old.items }
@@ -17,6 +17,8 @@ fn widen<T>(list: &mut Vec<T>) -> Result<(), AllocError>
     let len = list.len();
     if MANY <= len {
         list.reserve(len.saturating_mul(3))
+    } else if len == 0 {
+        list.reserve_exact(1)
     } else {
         list.reserve(1)
     }
