@@ -71,7 +71,7 @@ numbers_apart nodes (facts.Cond e answer) g (Some m) (Some n) i j apart = absurd
 numbers_apart nodes (facts.Compare l op r) (facts.Cond e answer) (Some m) (Some n) i j apart = absurd (cc (j))
 numbers_apart nodes (facts.Compare l op r) (facts.Compare l' op' r') (Some m) (Some n) i j apart =
     ap (λ b. same_order (order_of op) (order_of op') && (same_side (side_in nodes l) (side_in nodes l') && b))
-        (trees_apart (tree_of_side (side_in nodes r)) (tree_of_side (side_in nodes r')) m n (plain_is nodes r m i) (plain_is nodes r' n j) apart)
+    (trees_apart (tree_of_side (side_in nodes r)) (tree_of_side (side_in nodes r')) m n (plain_is nodes r m i) (plain_is nodes r' n j) apart)
     ∙ never_both (same_order (order_of op) (order_of op')) (same_side (side_in nodes l) (side_in nodes l'))
 
 pub facts_apart : (nodes : TypedNodes) (f g : Fact) (n : Option ℕ) → n ≡ plain_number_of nodes g → told_apart (plain_number_of nodes f) n ≡ true → same_claim (claim_in nodes f) (claim_in nodes g) ≡ false
