@@ -77,6 +77,51 @@ pub func s.f!(i: base.u8[..= 4], j: base.u8[..= 4], g: slice base.u8) base.u64 {
     return n ~mod+ m
 }
 """, ["bytes x 0000", "call p.f i=3 j=4 g=x", "show x", "call p.f i=4 j=0 g=x", "show x"]),
+    "what is calculated in int beside wider numbers": ("""\
+pub struct s?(
+    n : base.u32,
+    w : base.u64,
+    a : array[32] base.u8,
+)
+pub func s.f!(a: base.u8[..= 15], b: base.u16[..= 1000], n: base.u32[..= 1000]) base.u32 {
+    var m : base.u32
+    m ~mod+= args.n + ((args.a + 1) as base.u32)
+    m ~mod+= ((args.a * 3) as base.u32) * args.n
+    m ~mod+= args.n % (((args.a as base.u16) + args.b + 1) as base.u32)
+    m ~mod+= args.n / ((args.a + 1) as base.u32)
+    m ~mod+= args.n & ((args.a ^ 5) as base.u32)
+    m ~mod+= ((args.b << 1) as base.u32) | args.n
+    m ~mod+= ((args.b >> 1) as base.u32) ^ args.n
+    m ~mod+= ((args.a + 1) as base.u32) << 4
+    m ~mod+= ((args.a | 3) as base.u32) ~mod* 0x1000_0001
+    m ~sat+= (1000 - args.b) as base.u32
+    m ~mod-= ((args.a * 2) as base.u32) ~mod- args.n
+    if (((args.a + 1) as base.u32) < args.n) and (args.n >= ((args.b / 3) as base.u32)) {
+        m ~mod+= 1
+    }
+    if ((args.a + 1) as base.u32) == args.n {
+        m ~mod+= 2
+    }
+    m ~mod+= this.a[(args.a as base.u32) + ((args.a ^ 1) as base.u32)] as base.u32
+    return m
+}
+pub func s.g!(a: base.u8[..= 15], b: base.u16[..= 1000], w: base.u64[..= 1000]) base.u64 {
+    var m : base.u64
+    m ~mod+= args.w + ((args.a + 1) as base.u64)
+    m ~mod+= ((args.a * 3) as base.u64) * args.w
+    m ~mod+= args.w % (((args.a as base.u16) + args.b + 1) as base.u64)
+    m ~mod+= ((args.a ^ 5) as base.u64) & args.w
+    m ~mod+= args.w ~mod- ((args.b << 1) as base.u64)
+    m ~mod+= ((args.a + 1) as base.u64) << 40
+    m ~sat-= ((args.a as base.u32) * 70000) as base.u64
+    if args.w <= ((args.b + 1) as base.u64) {
+        m ~mod+= 1
+    }
+    this.w = ((args.a + 1) as base.u64)
+    this.n = ((args.b + 1) as base.u32)
+    return m ~mod+ (this.w ~mod+ (this.n as base.u64))
+}
+""", ["call p.f a=15 b=1000 n=1000", "call p.f a=0 b=0 n=1", "call p.g a=15 b=1000 w=1000", "call p.g a=3 b=7 w=0"]),
     "two constant statuses": ("""\
 pub status "#a"
 pub status "#b"

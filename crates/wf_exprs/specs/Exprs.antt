@@ -163,12 +163,13 @@ linked sat_plus bits joined a b = saturated true bits (taken bits a.code) (taken
 linked sat_minus bits joined a b = saturated false bits (taken bits a.code) (taken bits b.code)
 linked op bits joined a b = chained joined (op_of op) (balanced bits a b) b.code
 
--- `as`: a cast to a narrower type of calculation, and one to a wider type of what was calculated in `int`.
+-- `as`: a cast where C calculates with so many bits in a narrower type. To a wider one C converts by itself.
 abbrev pub converted : (bits : ℕ) → Rated → Rated
-converted bits a =
-    if nat_lt (rank (calculated bits)) (rank a.ty) then rated (cast (uint_of bits) a.code) (calculated bits)
-    else if nat_eq (rank (calculated bits)) (rank a.ty) || (is_held a.code || nat_lt 0 (rank a.ty)) then a
-    else rated (cast (uint_of bits) a.code) (calculated bits)
+converted bits a = if nat_lt (rank (calculated bits)) (rank a.ty) then rated (cast (uint_of bits) a.code) (calculated bits) else a
+
+-- Where it is compared, what was calculated in `int` is cast to a wider type: beside an unsigned number its sign is remarked.
+abbrev pub widened : (bits : ℕ) → Rated → Rated
+widened bits a = if nat_eq (rank a.ty) 0 && not (is_held a.code) then rated (cast (uint_of bits) a.code) (calculated bits) else a
 
 -- What a path that is no slice stands for.
 abbrev pub path_code : Names → Path → ExprTree
@@ -334,7 +335,7 @@ comparand names t = compared_as names (bare t)
 
 -- Beside a number of a wider type, what was calculated in `int` is cast.
 abbrev pub beside : Rated → CTy → Rated
-beside a ty = if nat_lt (rank a.ty) (rank ty) then converted (c_width ty) a else a
+beside a ty = if nat_lt (rank a.ty) (rank ty) then widened (c_width ty) a else a
 
 -- Statuses.
 abbrev pub status_constant : ℕ → ExprTree

@@ -7,7 +7,7 @@ ghost use Rattle.wf_ast.specs.TypedTrees.{operator_kind};
 ghost use Rattle.c_text.specs.CNodes.{expr_of};
 ghost use Rattle.c_text.specs.CSpelling.{IsLiteral};
 ghost use Rattle.wf_num.specs.CArithmetic.{c_width};
-ghost use Rattle.wf_exprs.specs.Exprs.{balanced as balanced_code, beside as beside_code, calculated as calculated_of, converted as converted_code, cut_off as cut_off_code, factor as factor_code, fills as fills_tree, firm as firm_code, is_filled as is_filled_tree, is_full as is_full_tree, is_or as is_or_op, literal_type as type_of_literal, rank as rank_of, recast as recast_code, saturated as saturated_code, saturating_name as name_of_saturating, suffixed as suffixed_literal, taken as taken_code, wider as wider_of};
+ghost use Rattle.wf_exprs.specs.Exprs.{balanced as balanced_code, beside as beside_code, calculated as calculated_of, converted as converted_code, cut_off as cut_off_code, factor as factor_code, fills as fills_tree, firm as firm_code, is_filled as is_filled_tree, is_full as is_full_tree, is_or as is_or_op, literal_type as type_of_literal, rank as rank_of, recast as recast_code, saturated as saturated_code, saturating_name as name_of_saturating, suffixed as suffixed_literal, taken as taken_code, widened as widened_code, wider as wider_of};
 ghost use Rattle.wf_exprs.specs.Grown.{Grows, HasExpr, HasNamed};
 ghost use Rattle.wf_exprs.specs.Making.{HasRated, c_op, linked_by, rated_in, small_number};
 ghost use Rattle.wf_exprs.specs.Words.{two as two_trees};
@@ -381,16 +381,34 @@ pub fn linked(
     }
 }
 
-/// `as`: a cast to a narrower type of calculation, and one to a wider type of what was calculated in `int`.
+/// `as`: a cast where C calculates with numbers of this width in a narrower type. To a wider one C converts by itself.
 pub fn converted(u: &mut Unit, width: Width, a: Rated) -> Result<Rated, NoMemory>
     requires { a.code.0 < length u.old.exprs }
     ensures grows { Grows u.old u.new }
     ensures made { IfOk result (λ r. HasRated u.new r (converted_code (bits_of width) (rated_in u.old a))) }
 {
     let ty = calculated(width);
-    if rank(ty) < rank(a.ty) || (rank(a.ty) < rank(ty) && !is_held(u, a.code) && rank(a.ty) == 0) {
+    if rank(ty) < rank(a.ty) {
         let code = cast(u, width, a.code)?;
         Ok(Rated { code, ty })
+    } else {
+        Ok(a)
+    }
+}
+
+/// A number where it is compared with one of this width: what was calculated in `int` is cast, since beside an unsigned number
+/// its sign is remarked.
+pub fn widened(u: &mut Unit, width: Width, a: Rated) -> Result<Rated, NoMemory>
+    requires { a.code.0 < length u.old.exprs }
+    ensures grows { Grows u.old u.new }
+    ensures made { IfOk result (λ r. HasRated u.new r (widened_code (bits_of width) (rated_in u.old a))) }
+{
+    if rank(a.ty) == 0 && !is_held(u, a.code) {
+        let code = cast(u, width, a.code)?;
+        Ok(Rated {
+            code,
+            ty: calculated(width),
+        })
     } else {
         Ok(a)
     }
@@ -413,7 +431,7 @@ pub fn beside(u: &mut Unit, a: Rated, ty: CTy) -> Result<Rated, NoMemory>
     ensures made { IfOk result (λ r. HasRated u.new r (beside_code (rated_in u.old a) ty)) }
 {
     if rank(a.ty) < rank(ty) {
-        converted(u, width_in(ty), a)
+        widened(u, width_in(ty), a)
     } else {
         Ok(a)
     }

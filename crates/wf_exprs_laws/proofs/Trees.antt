@@ -24,7 +24,7 @@ use Rattle.c_meaning.specs.declared.values.CValue.TheVariants.{NullPointer as nu
 use Rattle.c_meaning.specs.CExprs.{Surroundings}
 use Rattle.wf_exprs.specs.Names.{Names, names_of}
 use Rattle.wf_exprs.specs.Words.{num, uint_of}
-use Rattle.wf_exprs.specs.Exprs.{calculated, rank, Rated, rated, is_held, converted, beside, bare, apart, with_zero, xor_operand, is_ones, is_short_ones, is_converted, pair_compared, comparand, is_array, asked_code, lowered, given, lowered_slice, lowered_end}
+use Rattle.wf_exprs.specs.Exprs.{calculated, rank, Rated, rated, is_held, converted, widened, beside, bare, apart, with_zero, xor_operand, is_ones, is_short_ones, is_converted, pair_compared, comparand, is_array, asked_code, lowered, given, lowered_slice, lowered_end}
 use Rattle.c_text.specs.CTree.{cast}
 use Rattle.wf_exprs_laws.specs.ExprLaw.{DeclaresOperator, DeclaresQuestion, Declares, DeclaresSlice, DeclaresEnd, GivesPointer, SpanStands, Stands}
 use Rattle.wf_exprs_laws.proofs.CNumbers.{by_width, width-limit}
@@ -83,16 +83,20 @@ pub record IsConverted (bits : ℕ) (x : Surroundings) (r : Rated) (n : ℕ) : T
   pub narrow : rank r.ty ≤ rank (calculated bits)
 
 pub converted-number : (bits : ℕ) → is_width bits ≡ true → (x : Surroundings) (a : Rated) (n : ℕ) → IsNumber x a.code a.ty n → n < 2 ^ bits → IsConverted bits x (converted bits a) n
-converted-number bits w x a n h s = by (nat_lt (rank (calculated bits)) (rank a.ty)) (nat_eq (rank (calculated bits)) (rank a.ty) || (is_held a.code || nat_lt 0 (rank a.ty))) refl
+converted-number bits w x a n h s = by (nat_lt (rank (calculated bits)) (rank a.ty)) refl
   where
-    recast : IsConverted bits x (rated (cast (uint_of bits) a.code) (calculated bits)) n
-    recast = record { is = cast-number bits w x a.code a.ty n h s; narrow = omega arith }
+    by : (wider : Bool) → nat_lt (rank (calculated bits)) (rank a.ty) ≡ wider
+        → IsConverted bits x (if wider then rated (cast (uint_of bits) a.code) (calculated bits) else a) n
+    by true e = record { is = cast-number bits w x a.code a.ty n h s; narrow = omega arith }
+    by false e = record { is = h; narrow = grind (arith, nat_tests, e) }
 
-    by : (wider stays : Bool) → nat_lt (rank (calculated bits)) (rank a.ty) ≡ wider
-        → IsConverted bits x (if wider then rated (cast (uint_of bits) a.code) (calculated bits) else if stays then a else rated (cast (uint_of bits) a.code) (calculated bits)) n
-    by true stays e = recast
-    by false true e = record { is = h; narrow = grind (arith, nat_tests, e) }
-    by false false e = recast
+pub widened-number : (bits : ℕ) → is_width bits ≡ true → (x : Surroundings) (a : Rated) (n : ℕ) → IsNumber x a.code a.ty n → n < 2 ^ bits → IsNumber x (widened bits a).code (widened bits a).ty n
+widened-number bits w x a n h s = by (nat_eq (rank a.ty) 0 && not (is_held a.code))
+  where
+    by : (test : Bool)
+        → IsNumber x (if test then rated (cast (uint_of bits) a.code) (calculated bits) else a).code (if test then rated (cast (uint_of bits) a.code) (calculated bits) else a).ty n
+    by true = cast-number bits w x a.code a.ty n h s
+    by false = h
 
 -- ---- numbers side by side
 
@@ -115,8 +119,8 @@ in-wider U64 U64 n l h = absurd (omega (arith, l))
 pub beside-number : (x : Surroundings) (a : Rated) (ty : CTy) (n : ℕ) → IsNumber x a.code a.ty n → IsNumber x (beside a ty).code (beside a ty).ty n
 beside-number x a ty n h = by (nat_lt (rank a.ty) (rank ty)) refl
   where
-    by : (test : Bool) → nat_lt (rank a.ty) (rank ty) ≡ test → IsNumber x (if test then converted (c_width ty) a else a).code (if test then converted (c_width ty) a else a).ty n
-    by true e = (converted-number (c_width ty) (width-of_type ty) x a n h (in-wider a.ty ty n (grind (arith, nat_tests, e)) h.small)).is
+    by : (test : Bool) → nat_lt (rank a.ty) (rank ty) ≡ test → IsNumber x (if test then widened (c_width ty) a else a).code (if test then widened (c_width ty) a else a).ty n
+    by true e = widened-number (c_width ty) (width-of_type ty) x a n h (in-wider a.ty ty n (grind (arith, nat_tests, e)) h.small)
     by false e = h
 
 -- ---- trees

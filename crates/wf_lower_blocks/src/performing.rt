@@ -25,7 +25,7 @@ use wf_ast::{Expr, ExprId, Ty, Typed};
 use wf_base::Width;
 use wf_exprs::names::put_name;
 use wf_exprs::nodes::{number, two, variable};
-use wf_exprs::rated::converted;
+use wf_exprs::rated::widened;
 use wf_exprs_nodes::asking::there;
 use wf_exprs_nodes::lower_slice;
 use wf_lower_stmts::Body;
@@ -356,7 +356,7 @@ fn copy_to_slice(
     let to = lower_slice(b.scope(), u, to)?;
     let source = slice_on(b, u, source)?;
     let rest = move_some(b, u, width, to.pointer, source.pointer, rest)?;
-    let other = converted(u, Width::W64, source.length)?;
+    let other = widened(u, Width::W64, source.length)?;
     least_size(b, u, to.length.code, other.code, rest)
 }
 

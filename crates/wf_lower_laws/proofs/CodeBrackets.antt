@@ -29,7 +29,7 @@ use Rattle.wf_lower_stmts.specs.Lower.{lower, continues, again_here, other_kind,
 use Rattle.wf_lower_stmts.specs.Statements.{next_byte, step_on, is_big_endian, with_byte, slice_bits, bytes_for, answer_local, is_wanted, put_into, set_slice, set_value, take_byte, take_bytes, written_byte, begun_call, awoken_call, lower_written, value_codes, values_codes, receiver_code, is_passed, call_into, hand_on, put_result, handed_call, plain_call, give_status, give_value, begun, awoken, lower_point, lower_plain, lower_simple}
 use Rattle.wf_lower_laws.specs.BracketLaw.{num_within, slice_within, cond_within, value_within, target_within, awaited_within, written_within, simple_within, is_chained, block_within}
 use Rattle.wf_lower_laws.proofs.OpenBrackets.{ExprOpens, ArgsOpen, ValueOpens, CodeOpens}
-use Rattle.wf_lower_laws.proofs.ExprBrackets.{ExprBy, by_more, by_if, by_two, by_unary, by_cast, by_element, by_choice, by_num, by_path, by_constant, by_status, by_begins, at_least_one, PairBy, by_converted, num_by, slice_by, given_by, cond_by}
+use Rattle.wf_lower_laws.proofs.ExprBrackets.{ExprBy, by_more, by_if, by_two, by_unary, by_cast, by_element, by_choice, by_num, by_path, by_constant, by_status, by_begins, at_least_one, PairBy, by_widened, num_by, slice_by, given_by, cond_by}
 
 pub record CodeBy (k : ℕ) (code : Code) : Type 0 where
   pub by : (n : ℕ) → n + k ≤ 512 → CodeOpens n code
@@ -333,7 +333,7 @@ module _ (d : ℕ) where
       let p = both_true (slice_within d to) (slice_within d s) u in
       let one = slice_by names d to p.0 in
       let other = slice_by names d s p.1 in
-      size_by _ _ _ (one_more _ one.1) (by_converted e_max (e_max + 1) 64 (lowered_slice names s).length (omega arith) (omega arith) other.1)
+      size_by _ _ _ (one_more _ one.1) (by_widened e_max (e_max + 1) 64 (lowered_slice names s).length (omega arith) (omega arith) other.1)
       (move_by (slice_bits to) _ _ _ (one_more _ one.0) (one_more _ other.0) (intos_by names t size_local rest w (easy k_max _ (λ m. tt {0})) i))
 
   codes_by : (names : Names) (v : ValueTree) → value_within d v ≡ true → EachBy g_max (value_codes names v)

@@ -1,5 +1,5 @@
 -- How many brackets an expression opens: no more than five for each that stands inside another.
-use Rattle.std.proofs.Common.{◌≡◌, ℕ, ◌+◌, ◌-◌, ◌*◌, ◌≤◌, Bool, true, false, ◌&&◌, ◌||◌, List, Option, Some, None, nat_eq, refl, sym, subst, arith}
+use Rattle.std.proofs.Common.{◌≡◌, ℕ, ◌+◌, ◌-◌, ◌*◌, ◌≤◌, Bool, true, false, not, ◌&&◌, ◌||◌, List, Option, Some, None, nat_eq, refl, sym, subst, arith}
 use Rattle.std.specs.Prelude.{if◌then◌else◌, nat_le, nat_lt}
 use Rattle.std.proofs.lemmas.Bool.Decides.{nat_tests}
 use Rattle.std.proofs.lemmas.Slice.Eq.{bytes_eq-Decides}
@@ -25,7 +25,7 @@ use Rattle.c_text.specs.CTree as c
 use Rattle.wf_exprs.specs.Names.{Names}
 use Rattle.wf_exprs.specs.Words.{num, uint_of, two}
 use Rattle.wf_ast.specs.Value.{same_truth}
-use Rattle.wf_exprs.specs.Exprs.{calculated, rank, Rated, rated, recast, firm, balanced, op_of, with_operand, same_op, chained, saturated, cut_off, taken, is_filled, factor, linked, converted, path_code, Pair, path_pair, is_array, moved, part_pointer, part_length, place_code, bytes_code, peeked, raised, peek_code, asked_code, lowered, lowered_slice, lowered_end, bare, is_ones, is_short_ones, is_converted, apart, with_zero, xor_operand, pair_compared, comparand, beside, given, status_constant, lowered_status, same_code, is_literal, is_held, compared, is_constant, constant_number, constants_compared, held_compared, statuses_compared, begins_with, category_code, lowered_cond}
+use Rattle.wf_exprs.specs.Exprs.{calculated, rank, Rated, rated, recast, firm, balanced, op_of, with_operand, same_op, chained, saturated, cut_off, taken, is_filled, factor, linked, converted, widened, path_code, Pair, path_pair, is_array, moved, part_pointer, part_length, place_code, bytes_code, peeked, raised, peek_code, asked_code, lowered, lowered_slice, lowered_end, bare, is_ones, is_short_ones, is_converted, apart, with_zero, xor_operand, pair_compared, comparand, beside, given, status_constant, lowered_status, same_code, is_literal, is_held, compared, is_constant, constant_number, constants_compared, held_compared, statuses_compared, begins_with, category_code, lowered_cond}
 use Rattle.wf_lower_laws.specs.BracketLaw.{repeats, goes_on, cond_goes_on, num_within, slice_within, end_within, cond_within}
 use Rattle.wf_lower_laws.proofs.Apart.{same_number}
 use Rattle.wf_lower_laws.proofs.OpenBrackets.{ExprOpens, OperandsOpen}
@@ -342,10 +342,11 @@ by_rated_if k false x y h j = j
 
 pub by_converted : (d k bits : ℕ) (a : Rated) → d + 1 ≤ k → 2 ≤ k → ExprBy d a.code → ExprBy k (converted bits a).code
 by_converted d k bits a l m h =
-    let it = rated (cast (uint_of bits) a.code) (calculated bits) in
-    let c : ExprBy k it.code = by_cast d k (uint_of bits) a.code l m h in
-    by_rated_if k (nat_lt (rank (calculated bits)) (rank a.ty)) it (if nat_eq (rank (calculated bits)) (rank a.ty) || (is_held a.code || nat_lt 0 (rank a.ty)) then a else it) c
-    (by_rated_if k (nat_eq (rank (calculated bits)) (rank a.ty) || (is_held a.code || nat_lt 0 (rank a.ty))) a it (by_more d k a.code (omega (arith, l)) h) c)
+    by_rated_if k (nat_lt (rank (calculated bits)) (rank a.ty)) (rated (cast (uint_of bits) a.code) (calculated bits)) a (by_cast d k (uint_of bits) a.code l m h) (by_more d k a.code (omega (arith, l)) h)
+
+pub by_widened : (d k bits : ℕ) (a : Rated) → d + 1 ≤ k → 2 ≤ k → ExprBy d a.code → ExprBy k (widened bits a).code
+by_widened d k bits a l m h =
+    by_rated_if k (nat_eq (rank a.ty) 0 && not (is_held a.code)) (rated (cast (uint_of bits) a.code) (calculated bits)) a (by_cast d k (uint_of bits) a.code l m h) (by_more d k a.code (omega (arith, l)) h)
 
 abbrev EndBy : ℕ → Option Rated → Type 0
 EndBy k None = Unit {0}
@@ -528,7 +529,7 @@ module _ (names : Names) where
   comparand_by d (asked at question a) h = by_more (5 * d + 5) (5 * d + 6) _ (omega arith) (num_by d (asked at question a) h)
 
   by_beside : (d k : ℕ) (a : Rated) (ty : CTy) → d + 2 ≤ k → ExprBy d a.code → ExprBy k (beside a ty).code
-  by_beside d k a ty l h = by_rated_if k (nat_lt (rank a.ty) (rank ty)) (converted (c_width ty) a) a (by_converted d k (c_width ty) a (omega (arith, l)) (omega (arith, l)) h) (by_more d k a.code (omega (arith, l)) h)
+  by_beside d k a ty l h = by_rated_if k (nat_lt (rank a.ty) (rank ty)) (widened (c_width ty) a) a (by_widened d k (c_width ty) a (omega (arith, l)) (omega (arith, l)) h) (by_more d k a.code (omega (arith, l)) h)
 
   bare_by : (d : ℕ) (t : NumTree) → num_within d t ≡ true → ExprBy (5 * d + 5) (lowered names (bare t)).code
   bare_by d (number at n) h = num_by d (number at n) h

@@ -25,7 +25,7 @@ use Rattle.c_meaning.specs.CValues.{common}
 use Rattle.c_meaning.specs.CTypes.{CScope, promoted, ExprType, numbers, points_to, zero_literal, byte, as_number, arithmetic_type, sum_type, one_type, test_type, operation_type, operations_type, type_of, operand_types, cast_from, literal_type}
 use Rattle.wf_exprs.specs.Names.{Names}
 use Rattle.wf_exprs.specs.Words.{literal, num, uint_of, width_of, two}
-use Rattle.wf_exprs.specs.Exprs.{calculated, rank, Rated, rated, recast, firm, balanced, with_operand, same_op, chained, cut_off, taken, is_filled, factor, linked, converted, is_held, is_array as is_whole, moved, part_pointer, part_length, io_code, place_code, end_code, bytes_code, peeked, raised, peek_code, asked_code, same_code, compared, is_literal, is_constant, constant_number, constants_compared, held_compared, statuses_compared, begins_with, category_code, lowered, lowered_slice, lowered_end, is_ones, is_short_ones, is_converted, apart, with_zero, xor_operand, pair_compared, comparand, beside, lowered_status, lowered_cond}
+use Rattle.wf_exprs.specs.Exprs.{calculated, rank, Rated, rated, recast, firm, balanced, with_operand, same_op, chained, cut_off, taken, is_filled, factor, linked, converted, widened, is_held, is_array as is_whole, moved, part_pointer, part_length, io_code, place_code, end_code, bytes_code, peeked, raised, peek_code, asked_code, same_code, compared, is_literal, is_constant, constant_number, constants_compared, held_compared, statuses_compared, begins_with, category_code, lowered, lowered_slice, lowered_end, is_ones, is_short_ones, is_converted, apart, with_zero, xor_operand, pair_compared, comparand, beside, lowered_status, lowered_cond}
 use Rattle.wf_lower_laws.specs.KindLaw.{IsNum, IsPointer, IsText, IsBuffer, Declares, has_op, has_question, num_served, slice_served, end_served, status_served, cond_served, ExpressionsKeepKinds}
 
 module _ (S : CScope) where
@@ -171,9 +171,11 @@ module _ (S : CScope) where
 
   pub converted_kind : (bits : ℕ) (a : Rated) → IsNum S a.code → IsNum S (converted bits a).code
   converted_kind bits a h =
-      let it = rated (cast (uint_of bits) a.code) (calculated bits) in
-      rated_if (nat_lt (rank (calculated bits)) (rank a.ty)) it (if nat_eq (rank (calculated bits)) (rank a.ty) || (is_held a.code || nat_lt 0 (rank a.ty)) then a else it) (cast_kind bits a.code h)
-      (rated_if (nat_eq (rank (calculated bits)) (rank a.ty) || (is_held a.code || nat_lt 0 (rank a.ty))) a it h (cast_kind bits a.code h))
+      rated_if (nat_lt (rank (calculated bits)) (rank a.ty)) (rated (cast (uint_of bits) a.code) (calculated bits)) a (cast_kind bits a.code h) h
+
+  pub widened_kind : (bits : ℕ) (a : Rated) → IsNum S a.code → IsNum S (widened bits a).code
+  widened_kind bits a h =
+      rated_if (nat_eq (rank a.ty) 0 && not (is_held a.code)) (rated (cast (uint_of bits) a.code) (calculated bits)) a (cast_kind bits a.code h) h
 
   -- ---- trees
 
@@ -405,7 +407,7 @@ module _ (S : CScope) where
     comparand_kind (asked at question a) w s = number_kind (asked at question a) w s
 
     beside_kind : (a : Rated) (ty : CTy) → IsNum S a.code → IsNum S (beside a ty).code
-    beside_kind a ty h = rated_if (nat_lt (rank a.ty) (rank ty)) (converted (c_width ty) a) a (converted_kind (c_width ty) a h) h
+    beside_kind a ty h = rated_if (nat_lt (rank a.ty) (rank ty)) (widened (c_width ty) a) a (widened_kind (c_width ty) a h) h
 
     status_kind : (t : StatusTree) → well_status x t ≡ true → status_served knows t ≡ true → IsText S (lowered_status names t)
     status_kind (status at n) w s = d.constants n s

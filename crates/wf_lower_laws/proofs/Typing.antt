@@ -38,7 +38,7 @@ use Rattle.wf_lower.specs.Bodies.{params_of, result_of}
 use Rattle.wf_lower_laws.specs.KindLaw.{IsNum, IsPointer, IsText, Declares, KeepKinds, has_op, has_question, num_served, slice_served, end_served, status_served, cond_served}
 use Rattle.wf_lower_laws.proofs.Apart.{left_or, right_or}
 use Rattle.wf_lower_laws.proofs.Names.{both_hold}
-use Rattle.wf_lower_laws.proofs.ExprKinds.{expressions_keep_kinds, num_kind, taken_kind, two_kind, cast_kind, converted_kind, plus_kind, begins_kind}
+use Rattle.wf_lower_laws.proofs.ExprKinds.{expressions_keep_kinds, num_kind, taken_kind, two_kind, cast_kind, widened_kind, plus_kind, begins_kind}
 use Rattle.wf_lower_laws.proofs.Frames.{same_bytes, is_variable, is_result_of}
 use Rattle.wf_lower_laws.proofs.Straight.{straight_reads, gets}
 use Rattle.wf_lower_laws.proofs.CodeTypes.{Fits, num_fits, text_fits, pointer_fits, Cell, NumCell, variable_num, CodeOk, ok_finish, ok_if, ok_assign, ok_number, ok_read, ok_leave, ok_branch, ok_when, ok_repeat, ok_jump, ok_empty, ok_case, ok_label, ok_call, ok_when_assigned, num_typed, num_counts, fits_typed}
@@ -711,7 +711,7 @@ module _ (c : Checked) (f : Form) (Settled : List ℕ → Type 0) (CallOk : List
         let other = slice_ok source r.0 in
         let same : (element_type source).bits ≡ (element_type to).bits = grind (arith, nat_tests, r.1) in
         let P : ℕ → Type 0 = λ bits. IsPointer S bits (lowered_slice f.names source).pointer in
-        least_ok _ _ _ one_part.1 (converted_kind S 64 (lowered_slice f.names source).length other.1)
+        least_ok _ _ _ one_part.1 (widened_kind S 64 (lowered_slice f.names source).length other.1)
         (move_ok (slice_bits to) (element_type to).bits _ _ _ one_part.0 (subst P same other.0) (into_ok t size_local rest (bits_taken t 64 size_local p.0 size_num) ok))
 
     -- ---- calls of methods
