@@ -11,9 +11,10 @@ and ends the run with 1. With --growth that is all, and without valgrind nothing
 For the largest package of each shape comes the least time of three runs of `gen`, and of `tcc -c` and `gcc -O0 -c` on the text that it
 writes, one after another in turn, with the factor of `gen`, which checks the package first, over `tcc -c`. Compilers that aren't there
 are skipped.
-With --written, `gen` and `tcc -c` are compared alone, on each package of examples/ and tests/decoders/ and on the largest of the
-shapes of WRITTEN, a method of 1,024 points and 840 coroutines that are a page long each: the least time of several runs in turn, and the
-instructions of both, where valgrind is there. Where `gen` takes more instructions than `tcc -c`, the run ends with 1.
+With --written, `gen` and `tcc -c` are compared alone, on each package of examples/ and tests/decoders/ and on those of WRITTEN, 1,024
+methods, a method of 1,024 points, 840 coroutines that are a page long each, and the packages of these folders five times in one: the
+least time of several runs in turn, and the instructions of both, where valgrind is there. Where `gen` takes more instructions than
+`tcc -c`, the run ends with 1.
 """
 import math
 import os
@@ -27,6 +28,8 @@ import time
 
 import check_benchmark
 from check_benchmark import method, package
+
+ROOT = pathlib.Path(__file__).resolve().parent.parent
 
 COMPILERS = {"tcc": ["tcc", "-c"], "gcc": ["gcc", "-std=c99", "-O0", "-c"]}
 ROUNDS = 3
@@ -57,6 +60,26 @@ def unread(n):
     return package(method("f", "a: base.bool, b: base.u32", "", lines))
 
 
+def written_packages():
+    """The packages of examples/ and tests/decoders/."""
+    return sorted([*(ROOT / "examples").glob("*.wuffs"), *(ROOT / "tests/decoders").glob("*.wuffs")])
+
+
+def renamed(text, n):
+    """A package's text in which each struct, constant and status has a name with this number."""
+    names = "|".join(re.findall(r"(?:struct|const) (\w+)", text))
+    text = re.sub(rf"(?<![\w.])({names})\b", rf"\g<1>{n}", text)
+    for status in re.findall(r'status "([^"]*)"', text):
+        text = text.replace(f'"{status}"', f'"{status} {n}"')
+    return text
+
+
+def formats(n):
+    """The packages of examples/ and tests/decoders/ one after the other, n times, each time under names of its own."""
+    texts = [package.read_text() for package in written_packages()]
+    return "\n".join(renamed(text, i * len(texts) + j) for i in range(n) for j, text in enumerate(texts))
+
+
 SHAPES = {
     **check_benchmark.SHAPES,
     "unread": (unread, (4670, 9340, 18680, 37360)),
@@ -65,9 +88,10 @@ SHAPES = {
     "statuses": (statuses, (128, 256, 512, 1024)),
     "locals": (local_variables, (32, 64, 128, 256)),
     "copying": (check_benchmark.copying, (105, 210, 420, 840)),
+    "formats": (formats, (7, 14, 28, 56)),
 }
 
-WRITTEN = ("points", "copying")
+WRITTEN = {"methods": 1024, "points": 1024, "copying": 840, "formats": 5}
 
 
 class Meter(check_benchmark.Meter):
@@ -150,13 +174,10 @@ def written(program, folder):
     if not shutil.which("tcc"):
         print("there is no tcc, so gen wasn't compared with it")
         return True
-    top = pathlib.Path(__file__).resolve().parent.parent
-    packages = sorted([*(top / "examples").glob("*.wuffs"), *(top / "tests/decoders").glob("*.wuffs")])
-    good = [beside_tcc(program, folder, str(package.relative_to(top)), package, 20) for package in packages]
-    for name in WRITTEN:
-        make, sizes = SHAPES[name]
+    good = [beside_tcc(program, folder, str(package.relative_to(ROOT)), package, 20) for package in written_packages()]
+    for name, size in WRITTEN.items():
         package = folder / f"{name}.wuffs"
-        package.write_text(make(sizes[-1]))
+        package.write_text(SHAPES[name][0](size))
         good.append(beside_tcc(program, folder, name, package, 5))
     return all(good)
 
