@@ -4,9 +4,9 @@ prints the reports that belong to the package, with no finding of the sanitizers
 
 usage: compiled_reports.py PROGRAM [COUNT [SEED [NAME]]]    20 random packages with the seed 1 are the default; with a NAME only
                                                             packages that have it in their name
-The packages of examples/, tests/decoders, report_answers.py and QUIET are compiled by gcc, clang and tcc with exactly LANGUAGE at each of
-LEVELS, and so are the host programs by hand in examples/. Their scripts are played by the BUILDS; a package without one gets random ones, but for
-those of examples/limits, which are compiled alone.
+The packages of examples/, tests/decoders, report_answers.py, worked_reports.py and QUIET are compiled by gcc, clang and tcc with exactly
+LANGUAGE at each of LEVELS, and so are the host programs by hand in examples/. Their scripts are played by the BUILDS; a package without one
+gets random ones, but for those of examples/limits, which are compiled alone.
 The streams of cut_reports.py whose turns are enough, and COUNT random packages on two random scripts each, are played by the FEWER_BUILDS.
 
 A script becomes a function in C, which calls those of the text as docs/LOWERING.md tells them. It has to print what `run` prints,
@@ -28,6 +28,7 @@ import tempfile
 import cut_reports
 import random_reports
 import report_answers
+import worked_reports
 from second_opinion.scripts import OUT_OF_TURNS, Script, judged_once, report
 from second_opinion.trees import BaseType, SliceType
 
@@ -586,6 +587,9 @@ def written_packages():
     for name, text in report_answers.PACKAGES.items():
         scripts = [report_answers.script_of(name, lines) for _, package, lines, _ in report_answers.REPORTS if package == name]
         yield Package(f"report_answers.py {name}", "k", text, scripts)
+    for name, text in worked_reports.PACKAGES.items():
+        scripts = [worked_reports.worked(lines)[0] for _, package, lines in worked_reports.REPORTS if package == name]
+        yield Package(f"worked_reports.py {name}", name, text, scripts)
     for name, (text, lines) in QUIET.items():
         yield Package(name, "k", text, [report_answers.script_of("s", "|".join(lines))])
 
