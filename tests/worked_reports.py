@@ -22,7 +22,85 @@ from second_opinion.scripts import report
 ROOT = pathlib.Path(__file__).resolve().parent.parent
 COMMANDS = ("mean", "run", "exec")
 
+# Numbers of 16, 32 and 64 bits, and for each width the same methods, which hand on parts of their array.
+RACK = """\
+pub status "$pause"
+pub struct rack?(
+    a16 : array[4] base.u16,
+    a32 : array[4] base.u32,
+    a64 : array[4] base.u64,
+    length : base.u64,
+)
+pub func rack.length() base.u64 {
+    return this.length
+}
+""" + "".join("""\
+pri func rack.count16!(x: slice base.u16, first: base.u16) {
+    var i : base.u64
+    var v : base.u16
+    v = args.first
+    while i < args.x.length() {
+        args.x[i] = v
+        v ~mod+= 1
+        i ~mod+= 1
+    } endwhile
+}
+pri func rack.sum16(x: slice base.u16) base.u16 {
+    var i : base.u64
+    var n : base.u16
+    while i < args.x.length() {
+        n = n ~sat+ args.x[i]
+        i ~mod+= 1
+    } endwhile
+    return n
+}
+pri func rack.turn16!(x: slice base.u16) base.u16 {
+    var n : base.u64
+    var v : base.u16
+    var sum : base.u16
+    var t : slice base.u16
+    if args.x.length() >= 1 {
+        t = args.x[1 ..]
+        sum = this.sum16(x: t)
+        v = args.x[0]
+        n = args.x.copy_from_slice!(s: t)
+        if n < args.x.length() {
+            args.x[n] = v ~mod* v
+        }
+    }
+    return sum
+}
+pub func rack.fill16!(i: base.u64[..= 4], j: base.u64[..= 4], first: base.u16) {
+    if args.i <= args.j {
+        this.count16!(x: this.a16[args.i .. args.j], first: args.first)
+    }
+}
+pub func rack.turned16!(i: base.u64[..= 4]) base.u16 {
+    var n : base.u16
+    n = this.turn16!(x: this.a16[args.i ..])
+    return n
+}
+pub func rack.lift16!(i: base.u64[..= 4], j: base.u64[..= 4]) base.u64 {
+    var n : base.u64
+    var t : slice base.u16
+    t = this.a16[args.i ..]
+    n = t.copy_from_slice!(s: this.a16[.. args.j])
+    return n
+}
+pub func rack.pause16?() {
+    var t : slice base.u16
+    t = this.a16[1 ..]
+    this.length = t.length()
+    yield? "$pause"
+    this.length = t.length()
+}
+pub func rack.at16(i: base.u64[..= 3]) base.u16 {
+    return this.a16[args.i]
+}
+""".replace("16", bits) for bits in ("16", "32", "64"))
+
 PACKAGES = {
+    "rack": RACK,
     "scale": """\
 pri const LIMIT : base.u64 = 0xFFFF_FFFF_FFFF_FFFF
 pri const DOZEN : base.u8 = 12
@@ -627,6 +705,93 @@ REPORTS = [
         put c 06 => 1
         call x.heat src=c => ok c ri=2 wi=2 pos=0 open
         call x.turned => 6000"""),
+    # Slices of 16 bits: their elements wrap, add up to the type's greatest number at most, and move over one another without loss.
+    ("slices of 16 bits", "rack", """
+        new r rack
+        init r => ok
+        call r.fill16 i=0 j=4 first=65533 => done
+        call r.at16 i=2 => 65535
+        call r.at16 i=3 => 0
+        call r.lift16 i=1 j=4 => 3
+        call r.at16 i=0 => 65533
+        call r.at16 i=1 => 65533
+        call r.at16 i=3 => 65535
+        call r.turned16 i=0 => 65535
+        call r.at16 i=0 => 65533
+        call r.at16 i=2 => 65535
+        call r.at16 i=3 => 9
+        call r.turned16 i=3 => 0
+        call r.at16 i=3 => 81
+        call r.turned16 i=4 => 0
+        call r.fill16 i=3 j=1 first=7 => done
+        call r.lift16 i=4 j=4 => 0
+        call r.at16 i=3 => 81
+        call r.at32 i=0 => 0"""),
+    # The same of 32 bits: only the elements of a part change.
+    ("slices of 32 bits", "rack", """
+        new r rack
+        init r => ok
+        call r.fill32 i=1 j=3 first=4294967295 => done
+        call r.fill32 i=3 j=4 first=70000 => done
+        call r.at32 i=0 => 0
+        call r.at32 i=1 => 4294967295
+        call r.at32 i=2 => 0
+        call r.lift32 i=2 j=3 => 2
+        call r.at32 i=2 => 0
+        call r.at32 i=3 => 4294967295
+        call r.turned32 i=1 => 4294967295
+        call r.at32 i=1 => 0
+        call r.at32 i=2 => 4294967295
+        call r.at32 i=3 => 1
+        call r.fill32 i=0 j=2 first=70000 => done
+        call r.turned32 i=0 => 4294967295
+        call r.at32 i=0 => 70001
+        call r.at32 i=3 => 605032704
+        call r.turned32 i=2 => 605032704
+        call r.at32 i=3 => 1
+        call r.at16 i=3 => 0
+        call r.at64 i=0 => 0"""),
+    # The same of 64 bits.
+    ("slices of 64 bits", "rack", """
+        new r rack
+        init r => ok
+        call r.fill64 i=0 j=4 first=18446744073709551614 => done
+        call r.turned64 i=0 => 18446744073709551615
+        call r.at64 i=0 => 18446744073709551615
+        call r.at64 i=1 => 0
+        call r.at64 i=3 => 4
+        call r.turned64 i=1 => 5
+        call r.at64 i=1 => 1
+        call r.at64 i=3 => 0
+        call r.lift64 i=0 j=2 => 2
+        call r.lift64 i=2 j=2 => 2
+        call r.at64 i=2 => 18446744073709551615
+        call r.at64 i=3 => 1
+        call r.fill64 i=2 j=3 first=4294967296 => done
+        call r.turned64 i=2 => 1
+        call r.at64 i=2 => 1
+        call r.at64 i=3 => 0
+        call r.at32 i=3 => 0
+        call r.length => 0"""),
+    # Steps: a slice in a local is empty after a suspension, whatever its elements are.
+    ("slices of each width that are lost", "rack", """
+        new r rack
+        init r => ok
+        call r.pause16 => "$rack: pause"
+        call r.length => 3
+        call r.pause32 => "#base: interleaved coroutine calls"
+        init r => ok
+        call r.pause16 => "$rack: pause"
+        call r.pause16 => ok
+        call r.length => 0
+        call r.pause32 => "$rack: pause"
+        call r.length => 3
+        call r.pause32 => ok
+        call r.length => 0
+        call r.pause64 => "$rack: pause"
+        call r.length => 3
+        call r.pause64 => ok
+        call r.length => 0"""),
     # Ranges of `|` and `&` are exact at both ends: 8 to 11 here.
     ("ors and ands of refined numbers", "dial", """
         new d dial
