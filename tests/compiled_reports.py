@@ -7,7 +7,8 @@ usage: compiled_reports.py PROGRAM [COUNT [SEED [NAME]]]    20 random packages w
 The packages of examples/, tests/decoders, report_answers.py, worked_reports.py and QUIET are compiled by gcc, clang and tcc with exactly
 LANGUAGE at each of LEVELS, and so are the host programs by hand in examples/. Their scripts are played by the BUILDS; a package without one
 gets random ones, but for those of examples/limits, which are compiled alone.
-The streams of cut_reports.py whose turns are enough, and COUNT random packages on two random scripts each, are played by the FEWER_BUILDS.
+The streams of cut_reports.py whose turns are enough, and COUNT random packages on two random scripts each, are played by the FEWER_BUILDS;
+three of ten random packages are compiled by the FURTHER_BUILDS too, which optimise, for what these remark.
 
 A script becomes a function in C, which calls those of the text as docs/LOWERING.md tells them. It has to print what `run` prints,
 which has to be what the second opinion says (second_opinion/scripts.py). Compiled code counts no turns, so a script that needs more than it
@@ -40,8 +41,9 @@ SANITIZERS = ["-fsanitize=address,undefined", "-fno-sanitize-recover=all"]
 BUILDS = [([compiler, level, *SANITIZERS], []) for compiler in ("gcc", "clang") for level in ("-O0", "-O3")]
 BUILDS += [(["tcc"], []), (["gcc", "-O2", "-g"], ["valgrind", "-q", "--error-exitcode=99"])]
 FEWER_BUILDS = [(["gcc", "-O1", *SANITIZERS], []), (["clang", "-O0", *SANITIZERS], []), (["tcc"], [])]
-# How many random packages stand in one program.
-TOGETHER = 10
+# How many random packages stand in one program, and by what else three of these are compiled, since a compiler looks further as it optimises.
+TOGETHER, FURTHER = 10, 3
+FURTHER_BUILDS = [["gcc", "-O2"], ["gcc", "-O3"], ["clang", "-O2"]]
 # What compilers may say of random packages, and what is true of these then. Bounds don't look at what never runs: what stands under a
 # comparison that is never met, or after a statement that never goes on.
 TRUE_REMARKS = {
@@ -445,6 +447,10 @@ def said(method, called):
     return f"say_number({called});"
 
 
+def without_error(words):
+    return [word for word in words if word != "-Werror"]
+
+
 class Wrong(Exception):
     """What is wrong with a text or with what it prints."""
 
@@ -537,10 +543,12 @@ class Tests:
         for it in packages:
             it.write(self.program, self.folder)
         self.play(packages, FEWER_BUILDS, TRUE_REMARKS)
+        for words in [[*build, *without_error(LANGUAGE)] for build in FURTHER_BUILDS if self.are_there(build[0])]:
+            self.compile([*words, "-c", *(f"{it.package}.c" for it in packages[:FURTHER])], TRUE_REMARKS)
 
     def play(self, packages, builds, allowed=()):
         """A program of the packages prints what it has to, by each build. Some kinds of remarks may be allowed."""
-        language = [word for word in LANGUAGE if word != "-Werror" or not allowed]
+        language = without_error(LANGUAGE) if allowed else LANGUAGE
         names = [f"play_{it.package}" for it in packages]
         (self.folder / "main.c").write_text(MAIN.format("\n".join(f"void {name}(void);" for name in names), " ".join(f"{name}();" for name in names)))
         for words, runner in builds if packages else []:
