@@ -50,6 +50,9 @@ int main(int argc, char** argv) {
     fprintf(stderr, "%s: %s\n", argv[1], status);
     return 1;
   }
-  printf("%08lx\n", (unsigned long)wuffs_adler32__hasher__value(&hasher));
+  if (printf("%08lx\n", (unsigned long)wuffs_adler32__hasher__value(&hasher)) < 0 || fflush(stdout)) {
+    perror("adler32");
+    return 1;
+  }
   return 0;
 }

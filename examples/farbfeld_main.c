@@ -72,7 +72,18 @@ int main(int argc, char** argv) {
       /* Now there is room in dst. Where src has no more and the file neither, nothing more can come of another call. */
     } while (status && status[0] == '$' && (at || fill(&src, file)));
   }
+  /* Where fill got nothing, the file is over or failed. */
+  if (ferror(file)) {
+    perror(argv[1]);
+    fclose(file);
+    return 1;
+  }
   fclose(file);
+  /* However it ended, what was printed so far is good. */
+  if (fflush(stdout) || ferror(stdout)) {
+    perror("farbfeld");
+    return 1;
+  }
   if (status) {
     fprintf(stderr, "%s: %s\n", argv[1], status);
     return 1;

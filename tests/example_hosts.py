@@ -103,6 +103,13 @@ def files(source):
                        ("too many pixels", b"farbfeld" + b"\x00\x01\x00\x00" * 2 + stream)]
 
 
+def written(source):
+    """A host, and a file of which it has something to write: less than its output keeps, and more."""
+    yield "adler32", any_bytes(source, 5000)
+    yield from (("packbits", b"\x81a" * pieces) for pieces in (2, 4096))
+    yield from (("farbfeld", image(source, 79, height)) for height in (2, 200))
+
+
 def line_of(name):
     """The line in the head of the host that builds it."""
     head = (EXAMPLES / f"{name}_main.c").read_text().partition("*/")[0]
@@ -163,12 +170,12 @@ def runs(folder):
             yield fault(host, [at.name], (out, f"{at.name}: {said}\n" if said else "", status))
         yield fault(host, ["none.data"], (b"", "none.data: No such file or directory\n", FAILED))
         yield fault(host, [], (b"", f"usage: {name} FILE{' > UNPACKED' if name == 'packbits' else ''}\n", 2))
-    adler32_host, packbits_host = folder / "examples" / "adler32", folder / "examples" / "packbits"
-    yield fault(adler32_host, ["."], (b"", ".: Is a directory\n", FAILED))
-    yield fault(packbits_host, ["."], (b"", "packbits: Is a directory\n", FAILED))
-    (packbits_host.parent / "runs.data").write_bytes(b"\x81a" * 4096)
-    with open("/dev/full", "wb") as full:
-        yield fault(packbits_host, ["runs.data"], (b"", "packbits: No space left on device\n", FAILED), stdout=full)
+        yield fault(host, ["."], (b"", f"{name if name == 'packbits' else '.'}: Is a directory\n", FAILED))
+    for name, data in written(random.Random(20261130)):
+        host = folder / "examples" / name
+        (host.parent / "written.data").write_bytes(data)
+        with open("/dev/full", "wb") as full:
+            yield fault(host, ["written.data"], (b"", f"{name}: No space left on device\n", FAILED), stdout=full)
 
 
 HOSTS = {"adler32": adler32, "packbits": packbits, "farbfeld": farbfeld}
