@@ -28,7 +28,7 @@ import tempfile
 ROOT = pathlib.Path(__file__).resolve().parent.parent
 KEPT = ROOT / "tests" / "out" / "edits"
 RECORD = ROOT / "tests" / "edits" / "tried.txt"
-RECORD_HEAD = "# A crate, the kit with which all its wrong versions were refused, how many there are, and a sum. Written by tests/try_edits.py.\n"
+RECORD_HEAD = "# A crate, the kit with which all its wrong versions were refused, how many there were then, and a sum. Written by tests/try_edits.py.\n"
 TOLD = re.compile(r"must-fail (\w+)/(\S+\.edit): (refused|BAD EDIT|NOT REFUSED|NOT TRIED)(.*)")
 # What `rt check` prints of a function.
 VERDICT = re.compile(r"^fn (\S+): (proved|not proved|no proof)(.*)$", re.M)
