@@ -3,8 +3,8 @@
 
 usage: example_hosts.py PROGRAM
 The line is pasted into a shell in a copy of examples/, beside which PROGRAM stands as wuffsc: once with gcc as `cc`, once with clang;
-a compiler that isn't there is skipped. It has to build without a remark. docs/EMBEDDING.md has to show the same line, and a loop that
-is that of packbits_main.c. What a host
+a compiler that isn't there is skipped. It has to build without a remark. docs/EMBEDDING.md has to show the same line, a loop that
+is that of packbits_main.c, and the declarations of two packages, of which with the lines under them a program is made here. What a host
 writes and how it ends is compared with what Python makes of the same file: of files that are longer than the host's buffers, so that
 the package stops and goes on, of files that break off, of files with an error, and of files and outputs that fail.
 """
@@ -116,12 +116,16 @@ def line_of(name):
     return re.search(r"^ {5}(\S.*)$", head, re.M)[1]
 
 
+def blocks(heading):
+    """The blocks of C in a section of docs/EMBEDDING.md."""
+    section = (TOP / "docs" / "EMBEDDING.md").read_text().partition(f"## {heading}\n")[2].partition("\n## ")[0]
+    return re.findall(r"^```c\n(.*?)^```$", section, re.M | re.S) or [section]
+
+
 def shows():
     """Whether what docs/EMBEDDING.md shows of a loop stands in packbits_main.c: each block, function by function."""
     host = (EXAMPLES / "packbits_main.c").read_text()
-    section = (TOP / "docs" / "EMBEDDING.md").read_text().partition("## A loop that feeds pieces\n")[2].partition("\n## ")[0]
-    blocks = re.findall(r"^```c\n(.*?)^```$", section, re.M | re.S)
-    for part in [part.rstrip("\n") for block in blocks for part in block.split("\n\n")] or [section]:
+    for part in [part.rstrip("\n") for block in blocks("A loop that feeds pieces") for part in block.split("\n\n")]:
         there = any(f"\n{textwrap.indent(part, by)}\n" in host for by in ("", "  "))
         yield None if there else f"docs/EMBEDDING.md shows what isn't in packbits_main.c:\n{part}"
 
@@ -178,6 +182,62 @@ def runs(folder):
             yield fault(host, ["written.data"], (b"", f"{name}: No space left on device\n", FAILED), stdout=full)
 
 
+def declared(folder):
+    """Whether the declarations that docs/EMBEDDING.md shows of two packages are those of their texts, all that others can see of them."""
+    wanted, texts = [], [(folder / "examples" / f"{name}.c").read_text() for name in ("adler32", "packbits")]
+    for text in texts:
+        wanted += [struct for struct in re.findall(r"^typedef struct \{\n(?: .*\n)+\} \w+;$", text, re.M) if struct not in wanted]
+        wanted += [f"{head};" for head in re.findall(r"^(?!static|typedef)(\w.*\)) \{$", text, re.M)]
+    shown = re.sub(r"^/\*.*\*/\n|^\n", "", blocks("Two packages in one program")[0], flags=re.M)
+    yield None if shown == "\n".join(wanted) + "\n" else f"docs/EMBEDDING.md doesn't declare what stands in the texts:\n{shown}"
+
+
+def together(folder):
+    """Builds a program of two packages and of what docs/EMBEDDING.md shows of it; yields what is wrong with it and with its runs."""
+    yield from declared(folder)
+    declarations, loop = blocks("Two packages in one program")
+    (folder / "examples" / "two_main.c").write_text(TWO.replace("DECLARATIONS", declarations).replace("LOOP", loop))
+    words = ["../bin/cc", "-std=c99", "-O2", "-Wall", "-Wextra", "-o", "two", "two_main.c", "adler32.c", "packbits.c"]
+    ran = subprocess.run(words, cwd=folder / "examples", capture_output=True, text=True, timeout=60)
+    yield f"two packages: status {ran.returncode}, {ran.stdout}{ran.stderr}" if ran.returncode or ran.stdout + ran.stderr else None
+    whole = packed(random.Random(20261130), 200)
+    for data in (whole, whole[:5000], whole + b"\x81", b""):
+        (folder / "examples" / "two.data").write_bytes(data)
+        out, said, _ = packbits(data)
+        yield fault(folder / "examples" / "two", ["two.data"], (f"{zlib.adler32(out):08x} {said or 'ok'}\n".encode(), "", 0))
+
+
+TWO = """\
+#include <stddef.h>
+#include <stdint.h>
+#include <stdio.h>
+#include <string.h>
+DECLARATIONS
+int main(int argc, char** argv) {
+  static uint8_t packed[1 << 16], unpacked[100];
+  wuffs_base__io_buffer src = {0}, between = {0};
+  wuffs_packbits__unpacker unpacker;
+  wuffs_adler32__hasher hasher;
+  const char* status;
+  int more;
+  FILE* file = argc == 2 ? fopen(argv[1], "rb") : 0;
+  if (!file) {
+    return 2;
+  }
+  src.ptr = packed;
+  src.len = sizeof(packed);
+  src.wi = fread(packed, 1, sizeof(packed), file);
+  src.closed = 1;
+  fclose(file);
+  between.ptr = unpacked;
+  between.len = sizeof(unpacked);
+  wuffs_packbits__unpacker__initialize(&unpacker);
+  wuffs_adler32__hasher__initialize(&hasher);
+LOOP
+  printf("%08lx %s\\n", (unsigned long)wuffs_adler32__hasher__value(&hasher), status ? status : "ok");
+  return 0;
+}
+"""
 HOSTS = {"adler32": adler32, "packbits": packbits, "farbfeld": farbfeld}
 
 
@@ -198,7 +258,7 @@ def main():
         with tempfile.TemporaryDirectory() as at:
             folder = pathlib.Path(at)
             faults = list(build(program, compiler, folder))
-            told[compiler] = faults + ([] if any(faults) else list(runs(folder)))
+            told[compiler] = faults + ([] if any(faults) else [*runs(folder), *together(folder)])
     for who, faults in told.items():
         for wrong in faults:
             if wrong is None:
