@@ -209,6 +209,12 @@ VALUES = [
     ("(twice((0 - 1)))", 4294967294),
     ("(twice((1 / 0)))", "undefined"),
     ("(1 || (twice((1 / 0))))", 1),
+    # The examples of docs/C-SUBSET.md.
+    ("((self->n8 - 1) < 1)", 1),
+    ("((self->n8 - 1u) < 1)", 0),
+    ("((uint8_t)(0 - 1))", 255),
+    ("((_Bool)256)", 1),
+    ("((0 != a) && ((8 / a) > 2))", 0),
 ]
 
 BODIES = [
@@ -233,6 +239,8 @@ BODIES = [
     ("the local of an earlier call", "uint8_t v = 1; put((&v), 9); return v;", 9),
     ("a parameter is a variable", "a = (a + 5); put(((uint8_t*)0), a); return a;", "undefined"),
     ("a parameter that was assigned", "a = (a + 5); return a;", 5),
+    # Macros of the headers (7.1.3), which no compiler takes as names.
+    ("names that the headers define", "uint64_t NULL = 3; uint8_t INT8_MAX = 4; return (NULL + INT8_MAX);", 7),
     # 6.8.4.2
     ("a case", "switch (2) { case 1: return 10; case 2: return 20; default: return 30; }", 20),
     ("a default that stands first", "switch (7) { default: return 30; case 1: return 10; }", 30),
