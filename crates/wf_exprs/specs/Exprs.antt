@@ -187,7 +187,8 @@ path_pair names (local n) = record { pointer = variable (local_pointer names n);
 path_pair names (arg n) = record { pointer = variable (arg_pointer names n); length = rated (variable (arg_length names n)) U64 }
 path_pair names (field n) = record { pointer = of_self (field_name names n); length = rated (num 0) Int }
 
--- A whole array is never null; a slice may be, and then nothing may be added to its pointer.
+-- A whole array is never null; a slice may be, and then nothing may be added to its pointer, which stays as it is. It isn't 0 that
+-- stands there: gcc remarks on a 0 that is passed to `memmove`, though it is never passed.
 abbrev pub is_array : SliceTree → Bool
 is_array (array at of count path) = true
 is_array (slice at bits path) = false
@@ -195,7 +196,7 @@ is_array (cut at cells from to) = is_array cells
 
 abbrev pub moved : (never_null : Bool) → (pointer from : ExprTree) → ExprTree
 moved true pointer from = two Add pointer from
-moved false pointer from = choice pointer (two Add pointer from) (num 0)
+moved false pointer from = choice pointer (two Add pointer from) pointer
 
 -- From one number up to another.
 abbrev pub from_to : Rated → Rated → Rated

@@ -9,6 +9,8 @@ use Rattle.wf_num.proofs.CLaws.{c_limit, c_value-whole, c_difference-whole}
 use Rattle.wf_ast.specs.Value.{Span, State, element_of, part_of}
 use Rattle.wf_ast.specs.WellTyped.{is_width}
 use Rattle.c_text.specs.declared.kinds.COp.TheVariants.{Add, Sub}
+use Rattle.c_text.specs.declared.kinds.CUint.{CUint}
+use Rattle.c_text.specs.declared.kinds.CUint.TheVariants as width
 use Rattle.c_text.specs.CTree.{ExprTree, choice}
 use Rattle.c_text.specs.CTree as tree
 use Rattle.c_meaning.specs.declared.cells.CellType.{CellType}
@@ -18,9 +20,9 @@ use Rattle.c_meaning.specs.declared.values.CValue.{CValue}
 use Rattle.c_meaning.specs.declared.values.CValue.TheVariants.{Numeric as numeric, Address as address, NullPointer as null_pointer}
 use Rattle.c_meaning.specs.CValues.{number, common}
 use Rattle.c_meaning.specs.CMemory.{Memory, cells_at, loaded, offset, within, moved_in}
-use Rattle.c_meaning.specs.CTypes.{cell, points_to, one, type_of}
+use Rattle.c_meaning.specs.CTypes.{cell, points_to, one, same_uint, type_of}
 use Rattle.c_meaning.specs.CExprs.{Surroundings, held_value, moved_pointer, is_object_pointer, as_expr_type}
-use Rattle.wf_exprs.specs.Words.{num, uint_of, two}
+use Rattle.wf_exprs.specs.Words.{uint_of, width_of, two}
 use Rattle.wf_exprs.specs.Exprs.{calculated, wider, Rated, from_to, part_pointer, part_length}
 use Rattle.wf_exprs_laws.specs.ExprLaw.{GivesPointer, cell_behind, IsInside, SpanStands}
 use Rattle.wf_exprs_laws.proofs.CNumbers.{width-limit, limit-left}
@@ -153,29 +155,35 @@ sum-pointer x pointer index bits p q ty i h g o =
           (subst (λ t. option_map address (moved_pointer x.memory (is_object_pointer t) p (pos i)) ≡ Some (address q)) (sym h.type) (ap (option_map address) o));
     }
 
--- `(p ? (p + i) : 0)`
+same-width : (w : CUint) → same_uint w w ≡ true
+same-width width.U8 = refl
+same-width width.U16 = refl
+same-width width.U32 = refl
+same-width width.U64 = refl
+
+-- `(p ? (p + i) : p)`
 choice-type : (x : Surroundings) (pointer index : ExprTree) (bits : ℕ) (v : CValue) (ty : CTy) (i : ℕ) → GivesPointer x pointer bits v → IsNumber x index ty i
-    → type_of x.scope (choice pointer (two Add pointer index) (num 0)) ≡ Some (points_to (cell (uint_of bits)))
-choice-type x pointer index bits v ty i h g = let t = has-type (type_of x.scope index) ty g.gives.type in rw (h.type, t.is, t.number) refl
+    → type_of x.scope (choice pointer (two Add pointer index) pointer) ≡ Some (points_to (cell (uint_of bits)))
+choice-type x pointer index bits v ty i h g = let t = has-type (type_of x.scope index) ty g.gives.type in rw (h.type, t.is, t.number, same-width (width_of bits)) refl
 
 pub some-choice : (x : Surroundings) (pointer index : ExprTree) (bits : ℕ) (p q : Pointer) (ty : CTy) (i : ℕ) → GivesPointer x pointer bits (address p) → IsNumber x index ty i
-    → offset x.memory p (pos i) ≡ Some q → GivesPointer x (choice pointer (two Add pointer index) (num 0)) bits (address q)
+    → offset x.memory p (pos i) ≡ Some q → GivesPointer x (choice pointer (two Add pointer index) pointer) bits (address q)
 some-choice x pointer index bits p q ty i h g o =
     let t = has-type (type_of x.scope index) ty g.gives.type in
     record {
       type = choice-type x pointer index bits (address p) ty i h g;
-      value = rw (h.type, t.is, t.number, h.value, g.gives.value, c_value-whole ty i g.small)
+      value = rw (h.type, t.is, t.number, same-width (width_of bits), h.value, g.gives.value, c_value-whole ty i g.small)
           (subst (λ t. option_map (as_expr_type (points_to (cell (uint_of bits)))) (option_map address (moved_pointer x.memory (is_object_pointer t) p (pos i))) ≡ Some (address q)) (sym h.type)
           (ap (λ o. option_map (as_expr_type (points_to (cell (uint_of bits)))) (option_map address o)) o));
     }
 
 pub null-choice : (x : Surroundings) (pointer index : ExprTree) (bits : ℕ) (ty : CTy) (i : ℕ) → GivesPointer x pointer bits null_pointer → IsNumber x index ty i
-    → GivesPointer x (choice pointer (two Add pointer index) (num 0)) bits null_pointer
+    → GivesPointer x (choice pointer (two Add pointer index) pointer) bits null_pointer
 null-choice x pointer index bits ty i h g =
     let t = has-type (type_of x.scope index) ty g.gives.type in
     record {
       type = choice-type x pointer index bits null_pointer ty i h g;
-      value = rw (h.type, t.is, t.number, h.value) refl;
+      value = rw (h.type, t.is, t.number, same-width (width_of bits), h.value) refl;
     }
 
 -- The difference of two numbers.

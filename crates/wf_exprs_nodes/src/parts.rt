@@ -8,7 +8,7 @@ ghost use Rattle.wf_exprs.specs.Making.{HasEndAt, HasPair, HasPairAt, HasRated, 
 
 use c_text::{CExprId, COp, Unit};
 use std::alloc::Global;
-use wf_exprs::nodes::{choice, number, two};
+use wf_exprs::nodes::{choice, two};
 use wf_exprs::rated::wider;
 use wf_exprs::{Pair, Rated};
 use wf_text::NoMemory;
@@ -20,7 +20,7 @@ pub(crate) struct Cells {
     pub never_null: bool,
 }
 
-// A pointer moved on. Nothing may be added to a null pointer.
+// A pointer moved on. Nothing may be added to a null pointer, which stays as it is.
 fn moved(
     alloc: Global,
     u: &mut Unit,
@@ -37,8 +37,7 @@ fn moved(
     if never_null {
         return Ok(sum);
     }
-    let null = number(u, 0)?;
-    choice(u, pointer, sum, null)
+    choice(u, pointer, sum, pointer)
 }
 
 fn part_pointer(

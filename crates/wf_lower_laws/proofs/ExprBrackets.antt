@@ -355,7 +355,8 @@ EndBy k (Some a) = ExprBy k a.code
 by_moved : (d k : ℕ) (never_null : Bool) (p f : ExprTree) → d + 2 ≤ k → ExprBy d p → ExprBy d f → ExprBy k (moved never_null p f)
 by_moved d k true p f l h j = by_two d k Add p f (omega (arith, l)) h j
 by_moved d k false p f l h j =
-    by_choice (d + 1) k p (two Add p f) (num 0) (omega (arith, l)) (by_more d (d + 1) p (omega arith) h) (by_two d (d + 1) Add p f (omega arith) h j) (by_num (d + 1) 0)
+    let more : ExprBy (d + 1) p = by_more d (d + 1) p (omega arith) h in
+    by_choice (d + 1) k p (two Add p f) p (omega (arith, l)) more (by_two d (d + 1) Add p f (omega arith) h j) more
 
 by_part_pointer : (d k : ℕ) (never_null : Bool) (p : ExprTree) (from : Option Rated) → d + 2 ≤ k → ExprBy d p → EndBy d from → ExprBy k (part_pointer never_null p from)
 by_part_pointer d k never_null p None l h j = by_more d k p (omega (arith, l)) h

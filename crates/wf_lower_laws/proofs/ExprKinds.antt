@@ -26,6 +26,7 @@ use Rattle.c_meaning.specs.CTypes.{CScope, promoted, ExprType, numbers, points_t
 use Rattle.wf_exprs.specs.Names.{Names}
 use Rattle.wf_exprs.specs.Words.{literal, num, uint_of, width_of, two}
 use Rattle.wf_exprs.specs.Exprs.{calculated, rank, Rated, rated, recast, firm, balanced, with_operand, same_op, chained, cut_off, taken, is_filled, factor, linked, converted, widened, is_held, is_array as is_whole, moved, part_pointer, part_length, io_code, place_code, end_code, bytes_code, peeked, raised, peek_code, asked_code, same_code, compared, is_literal, is_constant, constant_number, constants_compared, held_compared, statuses_compared, begins_with, category_code, lowered, lowered_slice, lowered_end, is_ones, is_short_ones, is_converted, apart, with_zero, xor_operand, pair_compared, comparand, beside, lowered_status, lowered_cond}
+use Rattle.wf_lower_laws.proofs.Surfaces.{same_width}
 use Rattle.wf_lower_laws.specs.KindLaw.{IsNum, IsPointer, IsText, IsBuffer, Declares, has_op, has_question, num_served, slice_served, end_served, status_served, cond_served, ExpressionsKeepKinds}
 
 module _ (S : CScope) where
@@ -185,8 +186,8 @@ module _ (S : CScope) where
   pub plus_kind : (bits : ℕ) (p i : ExprTree) → IsPointer S bits p → IsNum S i → IsPointer S bits (two Add p i)
   plus_kind bits p i h j = rw (h, j.is, j.counts) refl
 
-  choice_kind : (bits : ℕ) (p i : ExprTree) → IsPointer S bits p → IsNum S i → IsPointer S bits (choice p (two Add p i) (num 0))
-  choice_kind bits p i h j = rw (h, j.is, j.counts) refl
+  choice_kind : (bits : ℕ) (p i : ExprTree) → IsPointer S bits p → IsNum S i → IsPointer S bits (choice p (two Add p i) p)
+  choice_kind bits p i h j = rw (h, j.is, j.counts, same_width (width_of bits)) refl
 
   moved_kind : (never_null : Bool) (bits : ℕ) (p i : ExprTree) → IsPointer S bits p → IsNum S i → IsPointer S bits (moved never_null p i)
   moved_kind true bits p i h j = plus_kind bits p i h j

@@ -77,7 +77,7 @@ one_item (x ∷ items) (suc i) (suc j) a b d e g n = one_item items i j a b (bot
 same_bytes : (l : List ℕ) → bytes_eq l l ≡ true
 same_bytes l = (bytes_eq-Decides l l).1 refl
 
-same_width : (u : CUint) → same_uint u u ≡ true
+pub same_width : (u : CUint) → same_uint u u ≡ true
 same_width U8 = refl
 same_width U16 = refl
 same_width U32 = refl
