@@ -9,6 +9,7 @@ pub mod Known
 pub mod LocalLaws
 pub mod PartLaws
 pub mod SavedFields
+pub mod SharedLaws
 pub mod Small
 pub mod Texts
 pub mod Walks

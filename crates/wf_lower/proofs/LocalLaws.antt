@@ -6,6 +6,7 @@ use Rattle.c_text.specs.CNodes.{Nodes}
 use Rattle.c_text.specs.CTree.{Code, ExprTree, LocalTree, TypeTree}
 use Rattle.wf_exprs.specs.Grown.{Grows}
 use Rattle.wf_exprs.specs.Reads.{code_reads}
+use Rattle.wf_exprs.specs.Words.{num}
 use Rattle.wf_exprs.proofs.Growing.{unchanged}
 use Rattle.wf_exprs_nodes.specs.Marks.{AreThose}
 use Rattle.wf_exprs_nodes.proofs.MarkLaws.{those_still}
@@ -80,3 +81,10 @@ reads_between flags a b c d ps qs rs ss xs ys zs (Ok u) g first second third = �
     let later = still_reads code g reads in
     locals_on (only_read code xs) (only_read code ys ++ zs) (first code reads) (locals_on (only_read code ys) zs (second code later) third)
 reads_between flags a b c d ps qs rs ss xs ys zs (Err refused) g first second third = third
+
+-- A local whose name is told in other words.
+pub named_read : (flags : List Bool) (a b : Nodes) (ps qs : List CLocal) (kind : TypeTree) {n name : List ℕ} → n ≡ name → AddsRead flags a b ps qs (declared kind n (num 0) ∷ []) → AddsRead flags a b ps qs (declared kind name (num 0) ∷ [])
+named_read flags a b ps qs kind e h = let P : List ℕ → Type 0 = λ n. AddsRead flags a b ps qs (declared kind n (num 0) ∷ []) in subst P e h
+
+pub reads_named : (flags : List Bool) (a b : Nodes) (ps qs : List CLocal) (kind : TypeTree) {n name : List ℕ} (r : Result (Unit {0}) NoMemory) → n ≡ name → OnOk r (AddsRead flags a b ps qs (declared kind n (num 0) ∷ [])) → OnOk r (AddsRead flags a b ps qs (declared kind name (num 0) ∷ []))
+reads_named flags a b ps qs kind r e h = let P : List ℕ → Type 0 = λ n. OnOk r (AddsRead flags a b ps qs (declared kind n (num 0) ∷ [])) in subst P e h

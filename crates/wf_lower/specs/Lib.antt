@@ -5,5 +5,6 @@ pub mod Locals
 pub mod Made
 pub mod Methods
 pub mod Parts
+pub mod Shared
 pub mod Structs
 pub mod Unit

@@ -14,10 +14,12 @@ ghost use Rattle.wf_lower_stmts.specs.Forms.{resume_local, when_some};
 ghost use Rattle.wf_lower_stmts.specs.Lower.{ending as ending_code};
 ghost use Rattle.wf_lower.specs.Bodies.{body_code as code_of_body, body_function as body_item, coroutine_code as code_of_coroutine, fixed_locals as locals_of_all, params_of as params_for, result_of as result_for, resumed, statements_of, touched as touched_code};
 ghost use Rattle.wf_lower.specs.Made.{CodeReads, HasItemTree, HasLocalTrees, HasParamTrees, IsResult};
+ghost use Rattle.wf_lower.specs.Shared.{HasOwnNames};
 ghost use Rattle.wf_lower.specs.Methods.{IsBodyOf, local_names, names_in, param_names, read_locals};
 
 use crate::declaring::{params_of, result_of};
 use crate::locals::{add_further, fixed_locals};
+use crate::shared::OwnNames;
 use c_text::{CExpr, CItem, CList, CLocal, CNameId, CParam, CStmt, CStmtId, CType, Linkage, Unit};
 use wf_ast::Block;
 use wf_exprs::nodes::{number, put, variable};
@@ -197,7 +199,9 @@ fn touched(
     params: &[CParam],
     code: CStmtId,
     read: &mut ReadNames,
+    names: &OwnNames,
 ) -> Result<(CList<CLocal>, CStmtId), NoMemory>
+    requires names { HasOwnNames u.old names.now }
     requires params { HasParams u.old params.now }
     requires code { code.0 < length u.old.stmts }
     ensures grows { Grows u.old u.new }
@@ -207,7 +211,7 @@ fn touched(
     let mut locals = fixed_locals(b, u)?;
     read.read_code(u, code)?;
     let whole = touch_all(u, read, code, params, locals.as_slice())?;
-    add_further(b, u, read, &mut locals)?;
+    add_further(b, u, read, names, &mut locals)?;
     Ok((locals, whole))
 }
 
@@ -242,14 +246,16 @@ pub(crate) fn body_function(
     u: &mut Unit,
     body: &Block,
     read: &mut ReadNames,
+    names: &OwnNames,
 ) -> Result<CItem, NoMemory>
-    requires { IsBodyOf b.now body.now }
+    requires body { IsBodyOf b.now body.now }
+    requires names { HasOwnNames u.old names.now }
     ensures grows { Grows u.old u.new }
     ensures made { IfOk result (λ item. HasItemTree u.new item (body_item (form_in b.now))) }
 {
     let own = body_code(b, u, body)?;
     let params = params_of_body(b, u)?;
-    let (locals, code) = touched(b, u, params.as_slice(), own, read)?;
+    let (locals, code) = touched(b, u, params.as_slice(), own, read, names)?;
     let name = name_of_body(b, u)?;
     Ok(CItem::Function {
         linkage: Linkage::Static,

@@ -6,7 +6,7 @@ ghost use Rattle.wf_ast.specs.TypedPackage.{answers_of, kind_of, package_of, var
 ghost use Rattle.wf_bufs.specs.SurfaceViews.{answer_kind_of};
 ghost use Rattle.c_text.specs.CFits.{HasType};
 ghost use Rattle.c_text.specs.CGrammar.{IsName};
-ghost use Rattle.c_text.specs.CNodes.{expr_of, type_in};
+ghost use Rattle.c_text.specs.CNodes.{bytes_at, expr_of, type_in};
 ghost use Rattle.c_text.specs.CSpelling.{is_word_byte};
 ghost use Rattle.c_text.specs.CTree.{struct_pointer, uint_pointer, size};
 ghost use Rattle.c_meaning.specs.UnitForm.{answer_type as type_answered, arg_params, args_params};
@@ -17,7 +17,7 @@ ghost use Rattle.wf_lower_stmts.specs.BodyNodes.{HasWords, is_spelt_method};
 ghost use Rattle.wf_lower.specs.Bodies.{declared, public_args};
 ghost use Rattle.wf_lower.specs.Made.{AddsParams, HasLocalTree, HasParamTree, HasParamTrees, HasTypeTree, IsResult, params_in, receiver_param};
 
-use c_text::{CExprId, CList, CLocal, CParam, CType, CUint, Unit};
+use c_text::{CExprId, CList, CLocal, CNameId, CParam, CType, CUint, Unit};
 use std::alloc::Global;
 use wf_ast::{Method, StructId, Ty, Typed, Var};
 use wf_bufs::AnswerKind;
@@ -218,6 +218,21 @@ pub(crate) fn zero_local(u: &mut Unit, kind: CType, name: &[u8]) -> Result<CLoca
 {
     let zero = number(u, 0)?;
     local(u, kind, name, zero)
+}
+
+/// The same, with a name that the unit has.
+pub(crate) fn zero_named(u: &mut Unit, kind: CType, name: CNameId) -> Result<CLocal, NoMemory>
+    requires kind { HasType u.old kind }
+    requires name { name.0 < length u.old.names }
+    ensures grows { Grows u.old u.new }
+    ensures made { IfOk result (λ it. HasLocalTree u.new it (declared (type_in u.old.names kind) (bytes_at u.old.names name.0) (num 0))) }
+{
+    let zero = number(u, 0)?;
+    Ok(CLocal {
+        kind,
+        name,
+        initial: Some(zero),
+    })
 }
 
 /// The same, with a name that ends with the source's.

@@ -25,6 +25,7 @@ ghost use Rattle.wf_lower_stmts.specs.Forms.{status_local, when as when_code};
 ghost use Rattle.wf_lower_blocks.specs.Calls.{HasGiven, HasValue};
 ghost use Rattle.wf_lower.specs.Bodies.{active as active_code, answer_in as answer_code, answer_locals as locals_for_answer, answered as answered_code, declared, disable as disable_code, disable_if_marked as disable_if_marked_code, entry_function as entry_item, first_is as first_is_code, handed as handed_codes, life as life_code, params_of as params_for, refuse as refuse_code, refused_with as refused_with_code, result_of as result_for, settle as settle_code, settle_if_coroutine as settle_if_coroutine_code, table as table_code, when_any as when_any_code, when_disabled as when_disabled_code, when_other as when_other_code, when_wrong as when_wrong_code, wrong_arg as wrong_arg_codes, wrong_args as wrong_args_codes};
 ghost use Rattle.wf_lower.specs.Made.{HasItemTree, HasLocalTrees, HasParamTrees, IsResult};
+ghost use Rattle.wf_lower.specs.Shared.{HasEntryExprs, HasEntryParts, HasShared, settle_error as settle_error_code};
 ghost use Rattle.wf_lower.specs.Methods.{AddsGiven, AddsTests, HasTests, after_body as after_body_code, answers_in, any_of, begins_apart, body_call as body_call_code, method_in, test_trees};
 
 use crate::declaring::{params_of, result_of, zero_local};
@@ -32,29 +33,17 @@ use c_text::{
     CArg, CCall, CExpr, CExprId, CItem, CList, CLocal, CNameId, COp, CParam, CStmtId, CType,
     Linkage, Unit,
 };
+use crate::shared::{EntryParts, Shared};
 use std::alloc::Global;
 use std::marker::Model;
 use wf_ast::{Method, Ty, Typed, Var};
 use wf_base::{Mark, Width};
 use wf_bufs::AnswerKind;
-use wf_exprs::nodes::{
-    element, negated, number, of_self, put, spelt_variable, two, uint_of, variable,
-};
-use wf_exprs_nodes::statuses::status_constant;
+use wf_exprs::nodes::{negated, number, put, spelt_variable, two, uint_of, variable};
 use wf_lower_stmts::code::{assign, call, finish, leave, when};
 use wf_lower_stmts::spelling::{body_name, entry_name};
 use wf_surfaces::answer_kind;
 use wf_text::{MethodId, NoMemory};
-
-const BAD_RECEIVER: u32 = 4;
-
-const BAD_ARGUMENT: u32 = 5;
-
-const NOT_INITIALIZED: u32 = 6;
-
-const INTERLEAVED: u32 = 7;
-
-const WAS_DISABLED: u32 = 8;
 
 /// A method whose entry is made.
 #[derive(Drop)]
@@ -157,47 +146,23 @@ impl<'a> Entry<'a> {
     }
 }
 
-/// What a refused call answers.
-fn refused_with(u: &mut Unit, answers: AnswerKind, status: u32) -> Result<Option<CExprId>, NoMemory>
-    ensures grows { Grows u.old u.new }
-    ensures made { IfOk result (λ value. HasValue u.new value (refused_with_code (answer_kind_of answers) status)) }
-{
-    match answers {
-        AnswerKind::Status => {
-            let value = status_constant(u, status)?;
-            Ok(Some(value))
-        }
-        AnswerKind::Number(_) | AnswerKind::Flag => {
-            let value = number(u, 0)?;
-            Ok(Some(value))
-        }
-        AnswerKind::Nothing => Ok(None),
-    }
-}
-
-/// The call is refused.
-fn refuse(e: &Entry, u: &mut Unit, status: u32) -> Result<CStmtId, NoMemory>
-    ensures grows { Grows u.old u.new }
-    ensures made { IfOk result (λ code. HasCode u.new code.0 (refuse_code (method_in e.now) status)) }
-{
-    let rest = finish(u)?;
-    let value = refused_with(u, e.answers(), status)?;
-    leave(u, value, rest)
-}
-
 /// The receiver is disabled.
-#[tactic(auto, unfolding(c_text::specs::CSpelling::is_reserved))]
-fn disable(u: &mut Unit, rest: CStmtId) -> Result<CStmtId, NoMemory>
+fn disable(k: &EntryParts, u: &mut Unit, rest: CStmtId) -> Result<CStmtId, NoMemory>
+    requires exprs { HasEntryExprs u.old k.now.exprs }
     requires rest { rest.0 < length u.old.stmts }
     ensures grows { Grows u.old u.new }
     ensures made { IfOk result (λ code. HasCode u.new code.0 (disable_code (code_of u.old rest.0))) }
 {
-    let two = number(u, 2)?;
-    let life = of_self(u, b"life")?;
-    assign(u, life, two, rest)
+    assign(u, k.exprs.life, k.exprs.two, rest)
 }
 
-fn disable_if_marked(e: &Entry, u: &mut Unit, rest: CStmtId) -> Result<CStmtId, NoMemory>
+fn disable_if_marked(
+    e: &Entry,
+    k: &EntryParts,
+    u: &mut Unit,
+    rest: CStmtId,
+) -> Result<CStmtId, NoMemory>
+    requires exprs { HasEntryExprs u.old k.now.exprs }
     requires rest { rest.0 < length u.old.stmts }
     ensures grows { Grows u.old u.new }
     ensures made { IfOk result (λ code. HasCode u.new code.0 (disable_if_marked_code e.now.method.mark (code_of u.old rest.0))) }
@@ -205,19 +170,8 @@ fn disable_if_marked(e: &Entry, u: &mut Unit, rest: CStmtId) -> Result<CStmtId, 
     if e.is_pure() {
         Ok(rest)
     } else {
-        disable(u, rest)
+        disable(k, u, rest)
     }
-}
-
-/// `(N == self->life)`
-#[tactic(auto, unfolding(c_text::specs::CSpelling::is_reserved))]
-fn life_is(alloc: Global, u: &mut Unit, n: u64) -> Result<CExprId, NoMemory>
-    ensures grows { Grows u.old u.new }
-    ensures made { IfOk result (λ it. HasExpr u.new it.0 (two_codes Eq (num n) life_code)) }
-{
-    let n = number(u, n)?;
-    let life = of_self(u, b"life")?;
-    two(alloc, u, COp::Eq, n, life)
 }
 
 /// The greatest number of a width.
@@ -395,16 +349,23 @@ fn either_of(alloc: Global, u: &mut Unit, tests: &[CExprId]) -> Result<CExprId, 
 }
 
 /// A call with a wrong argument is refused.
-fn refuse_argument(e: &Entry, u: &mut Unit) -> Result<CStmtId, NoMemory>
+fn refuse_argument(e: &Entry, k: &EntryParts, u: &mut Unit) -> Result<CStmtId, NoMemory>
+    requires { HasEntryParts u.old k.now (answers_in e.now) }
     ensures grows { Grows u.old u.new }
     ensures made { IfOk result (λ code. HasCode u.new code.0 (disable_if_marked_code e.now.method.mark (refuse_code (method_in e.now) 5))) }
 {
-    let body = refuse(e, u, BAD_ARGUMENT)?;
-    disable_if_marked(e, u, body)
+    disable_if_marked(e, k, u, k.refusals.bad_argument)
 }
 
 /// The row of these tests.
-fn when_any(e: &Entry, u: &mut Unit, tests: &[CExprId], rest: CStmtId) -> Result<CStmtId, NoMemory>
+fn when_any(
+    e: &Entry,
+    k: &EntryParts,
+    u: &mut Unit,
+    tests: &[CExprId],
+    rest: CStmtId,
+) -> Result<CStmtId, NoMemory>
+    requires parts { HasEntryParts u.old k.now (answers_in e.now) }
     requires tests { HasExprs (length u.old.exprs) tests.now }
     requires apart { begins_apart (test_trees u.old tests.now) ≡ true }
     requires rest { rest.0 < length u.old.stmts }
@@ -415,207 +376,224 @@ fn when_any(e: &Entry, u: &mut Unit, tests: &[CExprId], rest: CStmtId) -> Result
         return Ok(rest);
     }
     let test = either_of(e.alloc(), u, tests)?;
-    let body = refuse_argument(e, u)?;
+    let body = refuse_argument(e, k, u)?;
     when(u, test, body, rest)
 }
 
 /// The row of wrong arguments.
-fn when_wrong(e: &Entry, u: &mut Unit, rest: CStmtId) -> Result<CStmtId, NoMemory>
+fn when_wrong(
+    e: &Entry,
+    k: &EntryParts,
+    u: &mut Unit,
+    rest: CStmtId,
+) -> Result<CStmtId, NoMemory>
+    requires parts { HasEntryParts u.old k.now (answers_in e.now) }
     requires rest { rest.0 < length u.old.stmts }
     ensures grows { Grows u.old u.new }
     ensures made { IfOk result (λ code. HasCode u.new code.0 (when_wrong_code (method_in e.now) (code_of u.old rest.0))) }
 {
     let tests = wrong_args(e, u)?;
-    when_any(e, u, tests.as_slice(), rest)
+    when_any(e, k, u, tests.as_slice(), rest)
+}
+
+/// A call of a disabled receiver is refused.
+fn refuse_disabled(
+    e: &Entry,
+    k: &EntryParts,
+    u: &mut Unit,
+    rest: CStmtId,
+) -> Result<CStmtId, NoMemory>
+    requires parts { HasEntryParts u.old k.now (answers_in e.now) }
+    requires rest { rest.0 < length u.old.stmts }
+    ensures grows { Grows u.old u.new }
+    ensures made { IfOk result (λ code. HasCode u.new code.0 (when_code (two_codes Eq (num 2) life_code) (refuse_code (method_in e.now) 8) (code_of u.old rest.0))) }
+{
+    when(u, k.exprs.disabled, k.refusals.was_disabled, rest)
 }
 
 /// The row of a disabled receiver.
-fn when_disabled(e: &Entry, u: &mut Unit, rest: CStmtId) -> Result<CStmtId, NoMemory>
+fn when_disabled(
+    e: &Entry,
+    k: &EntryParts,
+    u: &mut Unit,
+    rest: CStmtId,
+) -> Result<CStmtId, NoMemory>
+    requires parts { HasEntryParts u.old k.now (answers_in e.now) }
     requires rest { rest.0 < length u.old.stmts }
     ensures grows { Grows u.old u.new }
     ensures made { IfOk result (λ code. HasCode u.new code.0 (when_disabled_code (method_in e.now) (code_of u.old rest.0))) }
 {
     if e.is_pure() {
-        return Ok(rest);
+        Ok(rest)
+    } else {
+        refuse_disabled(e, k, u, rest)
     }
-    let body = refuse(e, u, WAS_DISABLED)?;
-    let test = life_is(e.alloc(), u, 2)?;
-    when(u, test, body, rest)
 }
 
 /// `(self->active && (self->active != N))`
-#[tactic(auto, unfolding(c_text::specs::CSpelling::is_reserved))]
-fn is_other(alloc: Global, u: &mut Unit, own: u64) -> Result<CExprId, NoMemory>
+fn is_other(
+    alloc: Global,
+    k: &EntryParts,
+    u: &mut Unit,
+    own: u64,
+) -> Result<CExprId, NoMemory>
+    requires { HasEntryExprs u.old k.now.exprs }
     ensures grows { Grows u.old u.new }
     ensures made { IfOk result (λ it. HasExpr u.new it.0 (two_codes Both active_code (two_codes Ne active_code (num own)))) }
 {
-    let active = of_self(u, b"active")?;
+    let active = k.exprs.active;
     let own = number(u, own)?;
     let differs = two(alloc, u, COp::Ne, active, own)?;
     two(alloc, u, COp::Both, active, differs)
 }
 
 /// A call while another coroutine is active is refused.
-fn refuse_other(e: &Entry, u: &mut Unit) -> Result<CStmtId, NoMemory>
+fn refuse_other(e: &Entry, k: &EntryParts, u: &mut Unit) -> Result<CStmtId, NoMemory>
+    requires { HasEntryParts u.old k.now (answers_in e.now) }
     ensures grows { Grows u.old u.new }
     ensures made { IfOk result (λ code. HasCode u.new code.0 (disable_code (refuse_code (method_in e.now) 7))) }
 {
-    let body = refuse(e, u, INTERLEAVED)?;
-    disable(u, body)
+    disable(k, u, k.refusals.interleaved)
+}
+
+/// A call of a coroutine while another one is active is refused.
+fn when_not_own(
+    e: &Entry,
+    k: &EntryParts,
+    u: &mut Unit,
+    rest: CStmtId,
+) -> Result<CStmtId, NoMemory>
+    requires parts { HasEntryParts u.old k.now (answers_in e.now) }
+    requires rest { rest.0 < length u.old.stmts }
+    ensures grows { Grows u.old u.new }
+    ensures made { IfOk result (λ code. HasCode u.new code.0 (when_code (two_codes Both active_code (two_codes Ne active_code (num (e.now.number + 1)))) (disable_code (refuse_code (method_in e.now) 7)) (code_of u.old rest.0))) }
+{
+    let body = refuse_other(e, k, u)?;
+    let test = is_other(e.alloc(), k, u, e.active_number())?;
+    when(u, test, body, rest)
 }
 
 /// The row of another active coroutine.
-fn when_other(e: &Entry, u: &mut Unit, rest: CStmtId) -> Result<CStmtId, NoMemory>
+fn when_other(
+    e: &Entry,
+    k: &EntryParts,
+    u: &mut Unit,
+    rest: CStmtId,
+) -> Result<CStmtId, NoMemory>
+    requires parts { HasEntryParts u.old k.now (answers_in e.now) }
     requires rest { rest.0 < length u.old.stmts }
     ensures grows { Grows u.old u.new }
     ensures made { IfOk result (λ code. HasCode u.new code.0 (when_other_code e.now.number (method_in e.now) (code_of u.old rest.0))) }
 {
-    if !e.is_coroutine() {
-        return Ok(rest);
+    if e.is_coroutine() {
+        when_not_own(e, k, u, rest)
+    } else {
+        Ok(rest)
     }
-    let body = refuse_other(e, u)?;
-    let test = is_other(e.alloc(), u, e.active_number())?;
-    when(u, test, body, rest)
 }
 
-/// The row of a receiver that isn't ready.
-fn when_raw(e: &Entry, u: &mut Unit, rest: CStmtId) -> Result<CStmtId, NoMemory>
+/// The rows of a receiver that isn't ready.
+fn when_unready(
+    e: &Entry,
+    k: &EntryParts,
+    u: &mut Unit,
+    rest: CStmtId,
+) -> Result<CStmtId, NoMemory>
+    requires parts { HasEntryParts u.old k.now (answers_in e.now) }
     requires rest { rest.0 < length u.old.stmts }
     ensures grows { Grows u.old u.new }
-    ensures made { IfOk result (λ code. HasCode u.new code.0 (when_code (two_codes Eq (num 0) life_code) (refuse_code (method_in e.now) 6) (code_of u.old rest.0))) }
+    ensures made { IfOk result (λ code. HasCode u.new code.0 (when_code (unary Not self) (refuse_code (method_in e.now) 4) (when_code (two_codes Eq (num 0) life_code) (refuse_code (method_in e.now) 6) (code_of u.old rest.0)))) }
 {
-    let body = refuse(e, u, NOT_INITIALIZED)?;
-    let test = life_is(e.alloc(), u, 0)?;
-    when(u, test, body, rest)
-}
-
-/// `(!self)`
-#[tactic(auto, unfolding(c_text::specs::CSpelling::is_reserved))]
-fn is_null(u: &mut Unit) -> Result<CExprId, NoMemory>
-    ensures grows { Grows u.old u.new }
-    ensures made { IfOk result (λ it. HasExpr u.new it.0 (unary Not self)) }
-{
-    let receiver = variable(u, b"self")?;
-    negated(u, receiver)
-}
-
-/// The row of a null receiver.
-fn when_null(e: &Entry, u: &mut Unit, rest: CStmtId) -> Result<CStmtId, NoMemory>
-    requires rest { rest.0 < length u.old.stmts }
-    ensures grows { Grows u.old u.new }
-    ensures made { IfOk result (λ code. HasCode u.new code.0 (when_code (unary Not self) (refuse_code (method_in e.now) 4) (code_of u.old rest.0))) }
-{
-    let body = refuse(e, u, BAD_RECEIVER)?;
-    let test = is_null(u)?;
-    when(u, test, body, rest)
+    let rest = when(u, k.exprs.raw, k.refusals.not_initialized, rest)?;
+    when(u, k.exprs.null, k.refusals.bad_receiver, rest)
 }
 
 /// The entry table.
-fn table(e: &Entry, u: &mut Unit, rest: CStmtId) -> Result<CStmtId, NoMemory>
+fn table(
+    e: &Entry,
+    k: &EntryParts,
+    u: &mut Unit,
+    rest: CStmtId,
+) -> Result<CStmtId, NoMemory>
+    requires parts { HasEntryParts u.old k.now (answers_in e.now) }
     requires rest { rest.0 < length u.old.stmts }
     ensures grows { Grows u.old u.new }
     ensures made { IfOk result (λ code. HasCode u.new code.0 (table_code e.now.number (method_in e.now) (code_of u.old rest.0))) }
 {
-    let rest = when_other(e, u, rest)?;
-    let rest = when_wrong(e, u, rest)?;
-    let rest = when_disabled(e, u, rest)?;
-    let rest = when_raw(e, u, rest)?;
-    when_null(e, u, rest)
+    let rest = when_other(e, k, u, rest)?;
+    let rest = when_wrong(e, k, u, rest)?;
+    let rest = when_disabled(e, k, u, rest)?;
+    when_unready(e, k, u, rest)
 }
 
 /// `self->active = N;`
-#[tactic(auto, unfolding(c_text::specs::CSpelling::is_reserved))]
-fn set_active(u: &mut Unit, n: u64, rest: CStmtId) -> Result<CStmtId, NoMemory>
+fn set_active(
+    k: &EntryParts,
+    u: &mut Unit,
+    n: u64,
+    rest: CStmtId,
+) -> Result<CStmtId, NoMemory>
+    requires exprs { HasEntryExprs u.old k.now.exprs }
     requires rest { rest.0 < length u.old.stmts }
     ensures grows { Grows u.old u.new }
     ensures made { IfOk result (λ code. HasCode u.new code.0 (assign_code active_code (num n) (code_of u.old rest.0))) }
 {
     let n = number(u, n)?;
-    let active = of_self(u, b"active")?;
-    assign(u, active, n, rest)
-}
-
-/// `status[0]`
-#[tactic(auto, unfolding(c_text::specs::CSpelling::is_reserved))]
-fn first_of_status(u: &mut Unit) -> Result<CExprId, NoMemory>
-    ensures grows { Grows u.old u.new }
-    ensures made { IfOk result (λ it. HasExpr u.new it.0 (c.element status_local (num 0))) }
-{
-    let status = variable(u, b"status")?;
-    let zero = number(u, 0)?;
-    element(u, status, zero)
-}
-
-/// `(BYTE == status[0])`
-fn first_is(alloc: Global, u: &mut Unit, byte: u64) -> Result<CExprId, NoMemory>
-    ensures grows { Grows u.old u.new }
-    ensures made { IfOk result (λ it. HasExpr u.new it.0 (first_is_code byte)) }
-{
-    let byte = number(u, byte)?;
-    let first = first_of_status(u)?;
-    two(alloc, u, COp::Eq, byte, first)
-}
-
-/// The receiver is disabled, and nothing follows.
-fn disable_at_end(u: &mut Unit) -> Result<CStmtId, NoMemory>
-    ensures grows { Grows u.old u.new }
-    ensures made { IfOk result (λ code. HasCode u.new code.0 (disable_code finish_code)) }
-{
-    let end = finish(u)?;
-    disable(u, end)
-}
-
-/// An error disables.
-fn settle_error(alloc: Global, u: &mut Unit) -> Result<CStmtId, NoMemory>
-    ensures grows { Grows u.old u.new }
-    ensures made { IfOk result (λ code. HasCode u.new code.0 (when_code (first_is_code 35) (disable_code finish_code) finish_code)) }
-{
-    let rest = finish(u)?;
-    let body = disable_at_end(u)?;
-    let test = first_is(alloc, u, 35)?;
-    when(u, test, body, rest)
+    assign(u, k.exprs.active, n, rest)
 }
 
 /// `active` is set, and nothing follows.
-fn set_active_at_end(u: &mut Unit, n: u64) -> Result<CStmtId, NoMemory>
+fn set_active_at_end(k: &EntryParts, u: &mut Unit, n: u64) -> Result<CStmtId, NoMemory>
+    requires { HasEntryExprs u.old k.now.exprs }
     ensures grows { Grows u.old u.new }
     ensures made { IfOk result (λ code. HasCode u.new code.0 (assign_code active_code (num n) finish_code)) }
 {
     let end = finish(u)?;
-    set_active(u, n, end)
+    set_active(k, u, n, end)
 }
 
 /// A suspension makes active, and an error disables.
-fn settle_status(alloc: Global, u: &mut Unit, own: u64) -> Result<CStmtId, NoMemory>
+fn settle_status(
+    e: &Entry,
+    k: &EntryParts,
+    u: &mut Unit,
+    own: u64,
+) -> Result<CStmtId, NoMemory>
+    requires { HasEntryParts u.old k.now (answers_in e.now) }
     ensures grows { Grows u.old u.new }
-    ensures made { IfOk result (λ code. HasCode u.new code.0 (when_code (first_is_code 36) (assign_code active_code (num own) finish_code) (when_code (first_is_code 35) (disable_code finish_code) finish_code))) }
+    ensures made { IfOk result (λ code. HasCode u.new code.0 (when_code (first_is_code 36) (assign_code active_code (num own) finish_code) settle_error_code)) }
 {
-    let rest = settle_error(alloc, u)?;
-    let body = set_active_at_end(u, own)?;
-    let test = first_is(alloc, u, 36)?;
-    when(u, test, body, rest)
+    let body = set_active_at_end(k, u, own)?;
+    when(u, k.exprs.suspended, body, k.failed)
 }
 
 /// After the body of a coroutine: a suspension makes it active, every other end leaves none active, and an error disables.
 #[tactic(auto, unfolding(c_text::specs::CSpelling::is_reserved))]
-fn settle(e: &Entry, u: &mut Unit, rest: CStmtId) -> Result<CStmtId, NoMemory>
+fn settle(e: &Entry, k: &EntryParts, u: &mut Unit, rest: CStmtId) -> Result<CStmtId, NoMemory>
+    requires parts { HasEntryParts u.old k.now (answers_in e.now) }
     requires rest { rest.0 < length u.old.stmts }
     ensures grows { Grows u.old u.new }
     ensures made { IfOk result (λ code. HasCode u.new code.0 (settle_code e.now.number (code_of u.old rest.0))) }
 {
-    let body = settle_status(e.alloc(), u, e.active_number())?;
+    let body = settle_status(e, k, u, e.active_number())?;
     let status = variable(u, b"status")?;
     let rest = when(u, status, body, rest)?;
-    set_active(u, 0, rest)
+    set_active(k, u, 0, rest)
 }
 
-fn settle_if_coroutine(e: &Entry, u: &mut Unit, rest: CStmtId) -> Result<CStmtId, NoMemory>
+fn settle_if_coroutine(
+    e: &Entry,
+    k: &EntryParts,
+    u: &mut Unit,
+    rest: CStmtId,
+) -> Result<CStmtId, NoMemory>
+    requires parts { HasEntryParts u.old k.now (answers_in e.now) }
     requires rest { rest.0 < length u.old.stmts }
     ensures grows { Grows u.old u.new }
     ensures made { IfOk result (λ code. HasCode u.new code.0 (settle_if_coroutine_code e.now.number (method_in e.now) (code_of u.old rest.0))) }
 {
     if e.is_coroutine() {
-        settle(e, u, rest)
+        settle(e, k, u, rest)
     } else {
         Ok(rest)
     }
@@ -711,14 +689,20 @@ fn handed(alloc: Global, u: &mut Unit, params: &[CParam]) -> Result<CList<CArg>,
 }
 
 /// What comes after the call of the body.
-fn after_body(e: &Entry, u: &mut Unit, answer: Option<CExprId>) -> Result<CStmtId, NoMemory>
+fn after_body(
+    e: &Entry,
+    k: &EntryParts,
+    u: &mut Unit,
+    answer: Option<CExprId>,
+) -> Result<CStmtId, NoMemory>
+    requires parts { HasEntryParts u.old k.now (answers_in e.now) }
     requires there { IfSome answer (λ e. e.0 < length u.old.exprs) }
     requires answer { value_in (expr_of u.old) answer ≡ answer_code (answers_in e.now) }
     ensures grows { Grows u.old u.new }
     ensures made { IfOk result (λ code. HasCode u.new code.0 (after_body_code e.now)) }
 {
     let rest = answered(u, answer)?;
-    settle_if_coroutine(e, u, rest)
+    settle_if_coroutine(e, k, u, rest)
 }
 
 /// The name of the body.
@@ -753,35 +737,48 @@ fn result_of_entry(e: &Entry) -> Option<CType>
 }
 
 /// The call of the body, and what comes after it.
-fn call_body(e: &Entry, u: &mut Unit, params: &[CParam]) -> Result<CStmtId, NoMemory>
-    requires { HasParams u.old params.now }
+fn call_body(
+    e: &Entry,
+    k: &EntryParts,
+    u: &mut Unit,
+    params: &[CParam],
+) -> Result<CStmtId, NoMemory>
+    requires parts { HasEntryParts u.old k.now (answers_in e.now) }
+    requires params { HasParams u.old params.now }
     ensures grows { Grows u.old u.new }
     ensures made { IfOk result (λ code. HasCode u.new code.0 (body_call_code e.now (map (param_tree u.old.names) params.now))) }
 {
     let answer = answer_in(u, e.answers())?;
-    let rest = after_body(e, u, answer)?;
+    let rest = after_body(e, k, u, answer)?;
     let function = name_of_body(e, u)?;
     let args = handed(e.alloc(), u, params)?;
     call(u, answer, CCall { function, args }, rest)
 }
 
 /// The code of the entry.
-fn entry_code(e: &Entry, u: &mut Unit, params: &[CParam]) -> Result<CStmtId, NoMemory>
-    requires { HasParams u.old params.now }
+fn entry_code(
+    e: &Entry,
+    k: &EntryParts,
+    u: &mut Unit,
+    params: &[CParam],
+) -> Result<CStmtId, NoMemory>
+    requires parts { HasEntryParts u.old k.now (answers_in e.now) }
+    requires params { HasParams u.old params.now }
     ensures grows { Grows u.old u.new }
     ensures made { IfOk result (λ code. HasCode u.new code.0 (table_code e.now.number (method_in e.now) (body_call_code e.now (map (param_tree u.old.names) params.now)))) }
 {
-    let rest = call_body(e, u, params)?;
-    table(e, u, rest)
+    let rest = call_body(e, k, u, params)?;
+    table(e, k, u, rest)
 }
 
 /// The entry as a function.
-fn entry_of(e: &Entry, u: &mut Unit) -> Result<CItem, NoMemory>
+fn entry_of(e: &Entry, k: &EntryParts, u: &mut Unit) -> Result<CItem, NoMemory>
+    requires { HasEntryParts u.old k.now (answers_in e.now) }
     ensures grows { Grows u.old u.new }
     ensures made { IfOk result (λ item. HasItemTree u.new item (entry_item (package_of e.now.nodes) e.now.number (method_in e.now))) }
 {
     let params = params_of_entry(e, u)?;
-    let body = entry_code(e, u, params.as_slice())?;
+    let body = entry_code(e, k, u, params.as_slice())?;
     let locals = answer_locals(e.alloc(), u, e.answers())?;
     let name = name_of_entry(e, u)?;
     Ok(CItem::Function {
@@ -800,12 +797,14 @@ pub(crate) fn entry_function(
     t: &Typed,
     u: &mut Unit,
     m: MethodId,
+    shared: &Shared,
 ) -> Result<CItem, NoMemory>
+    requires shared { HasShared u.old shared.now }
     requires known { m.0 < length t.now.methods }
     requires words { HasWords t.now }
     ensures grows { Grows u.old u.new }
     ensures made { IfSome (slice_get (package_of t.now).methods m.0) (λ it. IfOk result (λ item. HasItemTree u.new item (entry_item (package_of t.now) m.0 it))) }
 {
     let e = Entry::new(alloc, t, m);
-    entry_of(&e, u)
+    entry_of(&e, shared.parts(e.answers()), u)
 }

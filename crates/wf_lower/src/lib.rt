@@ -9,6 +9,7 @@ pub mod examples;
 mod initializing;
 mod locals;
 mod lowering;
+mod shared;
 mod source;
 mod structs;
 

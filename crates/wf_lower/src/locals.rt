@@ -6,7 +6,7 @@ ghost use Rattle.std.specs.List.{list_all};
 ghost use Rattle.wf_ast.specs.TypedPackage.{variable_of};
 ghost use Rattle.c_text.specs.CFits.{HasLocal, HasType};
 ghost use Rattle.c_text.specs.CGrammar.{IsName};
-ghost use Rattle.c_text.specs.CNodes.{expr_of, local_tree, type_in};
+ghost use Rattle.c_text.specs.CNodes.{bytes_at, expr_of, local_tree, type_in};
 ghost use Rattle.c_text.specs.CSpelling.{is_word_byte};
 ghost use Rattle.c_text.specs.declared.kinds.CUint.TheVariants.{U8};
 ghost use Rattle.c_text.specs.CTree.{Code, member, size, uint_pointer};
@@ -19,12 +19,14 @@ ghost use Rattle.wf_lower_stmts.specs.BodyNodes.{form_in};
 ghost use Rattle.wf_lower_stmts.specs.Forms.{end_of as end_code, place_in as place_code};
 ghost use Rattle.wf_lower.specs.Bodies.{bytes_locals, declared, fixed_locals as fixed_locals_of, further_locals, io_locals, local_of, locals_of, resume_of};
 ghost use Rattle.wf_lower.specs.Made.{AddsLocals, AddsRead, CodeReads, HasLocalTree, HasLocalTrees, more_locals, resume_locals};
+ghost use Rattle.wf_lower.specs.Shared.{HasOwnNames};
 ghost use Rattle.wf_lower.specs.Locals.{answer_locals, bytes_in, place_locals, started_locals};
 
-use crate::declaring::{local, zero_local, zero_spelt};
-use c_text::{CExprId, CList, CLocal, CType, CUint, Unit};
+use crate::declaring::{local, zero_named, zero_spelt};
+use crate::shared::OwnNames;
+use c_text::{CExprId, CList, CLocal, CNameId, CType, CUint, Unit};
 use wf_ast::{Ty, Var};
-use wf_exprs::names::{put_name, put_spelt};
+use wf_exprs::names::put_spelt;
 use wf_exprs::nodes::uint_of;
 use wf_exprs_nodes::marks::ReadNames;
 use wf_lower_stmts::Body;
@@ -215,17 +217,16 @@ fn add_read(
     u: &mut Unit,
     read: &ReadNames,
     kind: CType,
-    name: &[u8],
+    name: CNameId,
     locals: &mut CList<CLocal>,
 ) -> Result<(), NoMemory>
     requires kind { HasType u.old kind }
-    requires name { IsName name.now }
+    requires name { name.0 < length u.old.names }
     ensures grows { Grows u.old u.new }
-    ensures made { OnOk result (AddsRead read.now u.old u.new locals.old locals.new (declared (type_in u.old.names kind) name.now (num 0) ∷ [])) }
+    ensures made { OnOk result (AddsRead read.now u.old u.new locals.old locals.new (declared (type_in u.old.names kind) (bytes_at u.old.names name.0) (num 0) ∷ [])) }
 {
-    let known = put_name(u, name)?;
-    if read.has(u, known) {
-        let local = zero_local(u, kind, name)?;
+    if read.has(u, name) {
+        let local = zero_named(u, kind, name)?;
         locals.push(local)
     } else {
         Ok(())
@@ -309,32 +310,48 @@ fn add_resume(b: &Body, u: &mut Unit, locals: &mut CList<CLocal>) -> Result<(), 
 }
 
 /// What a call answers, and how many bytes are copied.
-#[tactic(auto, using(wf_exprs::proofs::Growing::grows_on), unfolding(c_text::specs::CSpelling::is_reserved))]
-fn add_answers(u: &mut Unit, read: &ReadNames, locals: &mut CList<CLocal>) -> Result<(), NoMemory>
+fn add_answers(
+    u: &mut Unit,
+    read: &ReadNames,
+    names: &OwnNames,
+    locals: &mut CList<CLocal>,
+) -> Result<(), NoMemory>
+    requires { HasOwnNames u.old names.now }
     ensures grows { Grows u.old u.new }
     ensures made { OnOk result (AddsRead read.now u.old u.new locals.old locals.new answer_locals) }
 {
-    add_read(u, read, CType::Text, b"status", locals)?;
-    add_read(u, read, CType::Uint(CUint::U64), b"got", locals)?;
-    add_read(u, read, CType::Size, b"size", locals)
+    add_read(u, read, CType::Text, names.status, locals)?;
+    add_read(u, read, CType::Uint(CUint::U64), names.got, locals)?;
+    add_read(u, read, CType::Size, names.size, locals)
 }
 
 /// What a started statement has.
-#[tactic(auto, using(wf_exprs::proofs::Growing::grows_on), unfolding(c_text::specs::CSpelling::is_reserved))]
-fn add_started(u: &mut Unit, read: &ReadNames, locals: &mut CList<CLocal>) -> Result<(), NoMemory>
+fn add_started(
+    u: &mut Unit,
+    read: &ReadNames,
+    names: &OwnNames,
+    locals: &mut CList<CLocal>,
+) -> Result<(), NoMemory>
+    requires { HasOwnNames u.old names.now }
     ensures grows { Grows u.old u.new }
     ensures made { OnOk result (AddsRead read.now u.old u.new locals.old locals.new started_locals) }
 {
-    add_read(u, read, CType::Uint(CUint::U64), b"held", locals)?;
-    add_read(u, read, CType::Uint(CUint::U8), b"count", locals)
+    add_read(u, read, CType::Uint(CUint::U64), names.held, locals)?;
+    add_read(u, read, CType::Uint(CUint::U8), names.count, locals)
 }
 
-fn add_own(u: &mut Unit, read: &ReadNames, locals: &mut CList<CLocal>) -> Result<(), NoMemory>
+fn add_own(
+    u: &mut Unit,
+    read: &ReadNames,
+    names: &OwnNames,
+    locals: &mut CList<CLocal>,
+) -> Result<(), NoMemory>
+    requires { HasOwnNames u.old names.now }
     ensures grows { Grows u.old u.new }
     ensures made { OnOk result (AddsRead read.now u.old u.new locals.old locals.new further_locals) }
 {
-    add_answers(u, read, locals)?;
-    add_started(u, read, locals)
+    add_answers(u, read, names, locals)?;
+    add_started(u, read, names, locals)
 }
 
 /// What else the code reads.
@@ -342,12 +359,14 @@ pub(crate) fn add_further(
     b: &Body,
     u: &mut Unit,
     read: &ReadNames,
+    names: &OwnNames,
     locals: &mut CList<CLocal>,
 ) -> Result<(), NoMemory>
+    requires { HasOwnNames u.old names.now }
     ensures grows { Grows u.old u.new }
     ensures made { OnOk result ((code : Code) → CodeReads code u.old.names read.now → AddsLocals u.old u.new locals.old locals.new (more_locals (form_in b.now) code)) }
 {
     add_all_bytes(b, u, read, locals)?;
-    add_own(u, read, locals)?;
+    add_own(u, read, names, locals)?;
     add_resume(b, u, locals)
 }

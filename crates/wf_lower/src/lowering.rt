@@ -14,12 +14,14 @@ ghost use Rattle.wf_exprs_nodes.specs.Marks.{Marks};
 ghost use Rattle.wf_lower_stmts.specs.Forms.{form_of};
 ghost use Rattle.wf_lower.specs.Bodies.{body_function as body_function_of, functions_of};
 ghost use Rattle.wf_lower.specs.Made.{AddsFunctions, AreRead, FitFunctions, FitsFunction, HasFunctionTrees, IsReady, IsSpelt, item_trees};
+ghost use Rattle.wf_lower.specs.Shared.{HasOwnNames, HasShared};
 ghost use Rattle.wf_lower.specs.Parts.{entry_functions, items_before, saturating_widths};
 ghost use Rattle.wf_lower.specs.Unit.{all_functions as all_functions_of, initialize_function as initialize_function_of, initialize_functions, io_buffer_item, is_read_in, lowered_unit, method_functions, struct_items, used_helpers, used_texts};
 
 use crate::bodies::body_function;
 use crate::entries::entry_function;
 use crate::initializing::initialize_function;
+use crate::shared::{OwnNames, Shared, put_shared};
 use crate::source::{Source, started_by_method, statements};
 use crate::structs::{io_buffer, struct_item};
 use c_text::{CItem, CNameId, Unit};
@@ -101,16 +103,18 @@ fn add_body(
     p: &Source,
     u: &mut Unit,
     m: MethodId,
+    names: &OwnNames,
     functions: &mut Vec<CItem>,
     read: &mut ReadNames,
 ) -> Result<(), NoMemory>
+    requires names { HasOwnNames u.old names.now }
     requires ready { IsReady p.now.t.now p.now.points.now p.now.started.now }
     requires known { m.0 < length p.now.t.now.methods }
     ensures grows { Grows u.old u.new }
     ensures made { OnOk result ((method : MethodTree) → slice_get (package_of p.now.t.now).methods m.0 ≡ Some method → AddsFunctions u.old u.new functions.old.items functions.new.items (body_function_of (form_of (package_of p.now.t.now) method) ∷ [])) }
 {
     let b = Body::new(p.alloc, p.t, p.points, p.started(m), m);
-    let item = body_function(&b, u, p.t.body(m), read)?;
+    let item = body_function(&b, u, p.t.body(m), read, names)?;
     put_into(functions, item)
 }
 
@@ -119,15 +123,17 @@ fn add_entry(
     p: &Source,
     u: &mut Unit,
     m: MethodId,
+    shared: &Shared,
     functions: &mut Vec<CItem>,
 ) -> Result<(), NoMemory>
+    requires shared { HasShared u.old shared.now }
     requires ready { IsReady p.now.t.now p.now.points.now p.now.started.now }
     requires known { m.0 < length p.now.t.now.methods }
     ensures grows { Grows u.old u.new }
     ensures made { OnOk result ((method : MethodTree) → slice_get (package_of p.now.t.now).methods m.0 ≡ Some method → AddsFunctions u.old u.new functions.old.items functions.new.items (entry_functions (package_of p.now.t.now) m.0 method)) }
 {
     if p.t.method(m).public {
-        let item = entry_function(p.alloc, p.t, u, m)?;
+        let item = entry_function(p.alloc, p.t, u, m, shared)?;
         put_into(functions, item)
     } else {
         Ok(())
@@ -139,16 +145,18 @@ fn add_method(
     p: &Source,
     u: &mut Unit,
     m: u32,
+    shared: &Shared,
     functions: &mut Vec<CItem>,
     read: &mut ReadNames,
 ) -> Result<(), NoMemory>
+    requires shared { HasShared u.old shared.now }
     requires ready { IsReady p.now.t.now p.now.points.now p.now.started.now }
     requires known { m < length p.now.t.now.methods }
     ensures grows { Grows u.old u.new }
     ensures made { OnOk result (AddsFunctions u.old u.new functions.old.items functions.new.items (functions_of (package_of p.now.t.now) m (slice_get (package_of p.now.t.now).methods m))) }
 {
-    add_body(p, u, MethodId(m), functions, read)?;
-    add_entry(p, u, MethodId(m), functions)
+    add_body(p, u, MethodId(m), &shared.names, functions, read)?;
+    add_entry(p, u, MethodId(m), shared, functions)
 }
 
 fn add_methods(p: &Source, u: &mut Unit, functions: &mut Vec<CItem>) -> Result<(), NoMemory>
@@ -157,9 +165,10 @@ fn add_methods(p: &Source, u: &mut Unit, functions: &mut Vec<CItem>) -> Result<(
     ensures made { OnOk result (AddsFunctions u.old u.new functions.old.items functions.new.items (method_functions (package_of p.now.t.now) (package_of p.now.t.now).order)) }
 {
     let order = p.t.order();
+    let shared = put_shared(p.alloc, u)?;
     let mut read = ReadNames::new(p.alloc);
     for i in 0..order.len() {
-        add_method(p, u, order[i], functions, &mut read)?;
+        add_method(p, u, order[i], &shared, functions, &mut read)?;
     }
     Ok(())
 }
@@ -170,7 +179,8 @@ fn all_functions(p: &Source, u: &mut Unit) -> Result<Vec<CItem>, NoMemory>
     ensures grows { Grows u.old u.new }
     ensures made { IfOk result (λ functions. HasFunctionTrees u.new functions.items (all_functions_of (package_of p.now.t.now))) }
 {
-    let mut functions = Vec::new(p.alloc);
+    let count = p.t.struct_order().len().saturating_add(p.t.order().len().saturating_mul(2));
+    let mut functions = Vec::with_capacity(p.alloc, count)?;
     add_all_initialize(p, u, &mut functions)?;
     add_methods(p, u, &mut functions)?;
     Ok(functions)

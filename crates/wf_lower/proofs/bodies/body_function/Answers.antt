@@ -9,6 +9,7 @@ use Rattle.wf_lower.specs.Bodies.{fixed_locals, own_names, touched}
 use Rattle.wf_lower.specs.Made.{HasLocalTrees}
 use Rattle.wf_lower.specs.Methods.{local_names, param_names, read_locals}
 use Rattle.wf_lower.proofs.KeptLaws.{function_made, kept_locals, kept_params}
+use Rattle.wf_lower.proofs.SharedLaws.{kept_names}
 use Rattle.wf_lower.proofs.bodies.body_function.Goals as goal
 
 pub returns-in_err-name-clause-grows : goal.returns-in_err-name-clause-grows
@@ -34,3 +35,12 @@ returns-clause-made c =
       there = code.there;
       is = code.is ∙ ap (λ (ps : List ParamTree). touched (param_names ps ++ local_names (fixed_locals f)) start start) params ∙ ap (λ x. touched (own_names f) x x) own;
     })
+
+pub touched-requires-clause-names : goal.touched-requires-clause-names
+touched-requires-clause-names c = kept_names _ (grows_on c.body_code.ensures.grows c.params_of_body.ensures.grows) c.requires.names
+
+pub returns-in_err-params-clause-grows : goal.returns-in_err-params-clause-grows
+returns-in_err-params-clause-grows c = grows_on c.body_code.ensures.grows c.params_of_body.ensures.grows
+
+pub returns-in_err-locals-clause-grows : goal.returns-in_err-locals-clause-grows
+returns-in_err-locals-clause-grows c = grows_on (grows_on c.body_code.ensures.grows c.params_of_body.ensures.grows) c.touched.ensures.grows

@@ -10,6 +10,7 @@ use Rattle.wf_lower.specs.Methods.{read_locals}
 use Rattle.wf_lower.proofs.BodyLaws.{touched_all}
 use Rattle.wf_lower.proofs.KeptLaws.{kept_locals, params_stay}
 use Rattle.wf_lower.proofs.LocalLaws.{still_reads}
+use Rattle.wf_lower.proofs.SharedLaws.{kept_names}
 use Rattle.wf_lower.proofs.bodies.touched.Goals as goal
 
 pub read_code-requires : goal.read_code-requires
@@ -45,3 +46,9 @@ returns-clause-code c =
       there = made.there;
       is = made.is ∙ touched_all (params_kept _ _ c.fixed_locals.ensures.grows c.args.params.now c.requires.params) locals (c.fixed_locals.ensures.grows.stmts c.args.code.0 c.requires.code);
     }
+
+pub add_further-requires : goal.add_further-requires
+add_further-requires c = kept_names _ (grows_on c.fixed_locals.ensures.grows c.touch_all.ensures.grows) c.requires.names
+
+pub returns-in_err-whole-clause-grows : goal.returns-in_err-whole-clause-grows
+returns-in_err-whole-clause-grows c = grows_on c.fixed_locals.ensures.grows c.touch_all.ensures.grows

@@ -8,6 +8,7 @@ use Rattle.wf_lower.specs.Bodies.{answer_locals, table}
 use Rattle.wf_lower.specs.Made.{HasLocalTrees}
 use Rattle.wf_lower.specs.Methods.{body_call, method_in}
 use Rattle.wf_lower.proofs.KeptLaws.{function_made, kept_locals, kept_params}
+use Rattle.wf_lower.proofs.SharedLaws.{kept_parts}
 use Rattle.wf_lower.proofs.entries.entry_of.Goals as goal
 
 pub returns-clause-grows : goal.returns-clause-grows
@@ -27,3 +28,12 @@ returns-clause-made c =
 
 pub returns-in_err-name-clause-grows : goal.returns-in_err-name-clause-grows
 returns-in_err-name-clause-grows c = grows_on (grows_on (grows_on c.params_of_entry.ensures.grows c.entry_code.ensures.grows) c.answer_locals.ensures.grows) c.name_of_entry.ensures.grows
+
+pub entry_code-requires-clause-parts : goal.entry_code-requires-clause-parts
+entry_code-requires-clause-parts c = kept_parts _ _ c.params_of_entry.ensures.grows c.requires
+
+pub returns-in_err-body-clause-grows : goal.returns-in_err-body-clause-grows
+returns-in_err-body-clause-grows c = grows_on c.params_of_entry.ensures.grows c.entry_code.ensures.grows
+
+pub returns-in_err-locals-clause-grows : goal.returns-in_err-locals-clause-grows
+returns-in_err-locals-clause-grows c = grows_on (grows_on c.params_of_entry.ensures.grows c.entry_code.ensures.grows) c.answer_locals.ensures.grows

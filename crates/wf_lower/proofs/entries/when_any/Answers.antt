@@ -5,6 +5,7 @@ use Rattle.wf_lower_stmts.proofs.HereLaws.{code_here, retell_code}
 use Rattle.wf_lower.specs.Bodies.{disable_if_marked, refuse}
 use Rattle.wf_lower.specs.Methods.{method_in}
 use Rattle.wf_lower.proofs.EntryLaws.{any_none, any_some, when_as}
+use Rattle.wf_lower.proofs.SharedLaws.{kept_parts}
 use Rattle.wf_lower.proofs.entries.when_any.Goals as goal
 
 pub returns-then-is_empty-clause-made : goal.returns-then-is_empty-clause-made
@@ -24,3 +25,12 @@ returns-clause-made c =
 
 pub returns-clause-grows : goal.returns-clause-grows
 returns-clause-grows c = grows_on (grows_on c.either_of.ensures.grows c.refuse_argument.ensures.grows) c.when.ensures.grows
+
+pub refuse_argument-requires : goal.refuse_argument-requires
+refuse_argument-requires c = kept_parts _ _ c.either_of.ensures.grows c.requires.parts
+
+pub returns-in_err-body-clause-grows : goal.returns-in_err-body-clause-grows
+returns-in_err-body-clause-grows c = grows_on c.either_of.ensures.grows c.refuse_argument.ensures.grows
+
+pub when-requires-clause-rest : goal.when-requires-clause-rest
+when-requires-clause-rest c = (grows_on c.either_of.ensures.grows c.refuse_argument.ensures.grows).more_stmts c.args.rest.0 c.requires.rest

@@ -1,5 +1,0 @@
-use Rattle.wf_exprs.proofs.Growing.{grows_on}
-use Rattle.wf_lower.proofs.entries.when_null.Goals as goal
-
-pub returns-clause-grows : goal.returns-clause-grows
-returns-clause-grows c = grows_on (grows_on c.refuse.ensures.grows c.is_null.ensures.grows) c.when.ensures.grows
