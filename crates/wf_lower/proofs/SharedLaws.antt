@@ -1,7 +1,6 @@
 -- What the functions of all methods have in common stays while a unit grows.
 use Rattle.std.proofs.Common.{◌≡◌, ◌∙◌, ap, ℕ, List, length, refl}
 use Rattle.wf_text.specs.Surface.{AnswerKind}
-use Rattle.wf_text.specs.Surface as surface
 use Rattle.c_text.specs.declared.ids.CExprId.{CExprId}
 use Rattle.c_text.specs.CFits.{HasTarget}
 use Rattle.c_text.specs.declared.kinds.COp.{COp}
@@ -11,12 +10,13 @@ use Rattle.wf_exprs.specs.Grown.{Grows, HasExpr}
 use Rattle.wf_exprs.specs.Words.{of_self, two}
 use Rattle.wf_exprs.proofs.Growing.{kept_expr, kept_name}
 use Rattle.wf_exprs_nodes.proofs.ItemLaws.{code_kept}
+use Rattle.wf_lower.specs.declared.shared.AllRefusals.{AllRefusals}
 use Rattle.wf_lower.specs.declared.shared.EntryExprs.{EntryExprs}
 use Rattle.wf_lower.specs.declared.shared.EntryParts.{EntryParts}
 use Rattle.wf_lower.specs.declared.shared.OwnNames.{OwnNames}
 use Rattle.wf_lower.specs.declared.shared.Refusals.{Refusals}
 use Rattle.wf_lower.specs.declared.shared.Shared.{Shared}
-use Rattle.wf_lower.specs.Shared.{HasEntryExprs, HasEntryParts, HasOwnNames, HasRefusals, HasShared}
+use Rattle.wf_lower.specs.Shared.{HasAllRefusals, HasEntryExprs, HasEntryParts, HasOwnNames, HasRefusals, HasShared}
 
 pub kept_names : {a b : Nodes} (k : OwnNames) → Grows a b → HasOwnNames a k → HasOwnNames b k
 kept_names k g h = record {
@@ -47,6 +47,13 @@ kept_refusals k kind g h = record {
   was_disabled = code_kept _ _ g h.was_disabled;
 }
 
+pub kept_all_refusals : {a b : Nodes} (k : AllRefusals) → Grows a b → HasAllRefusals a k → HasAllRefusals b k
+kept_all_refusals k g h = record {
+  status = kept_refusals k.status _ g h.status;
+  value = kept_refusals k.value _ g h.value;
+  nothing = kept_refusals k.nothing _ g h.nothing;
+}
+
 pub kept_parts : {a b : Nodes} (k : EntryParts) (kind : AnswerKind) → Grows a b → HasEntryParts a k kind → HasEntryParts b k kind
 kept_parts k kind g h = record {
   exprs = kept_exprs k.exprs g h.exprs;
@@ -57,23 +64,9 @@ kept_parts k kind g h = record {
 pub kept_shared : {a b : Nodes} (k : Shared) → Grows a b → HasShared a k → HasShared b k
 kept_shared k g h = record {
   names = kept_names k.names g h.names;
-  status = kept_parts k.status _ g h.status;
-  value = kept_parts k.value _ g h.value;
-  nothing = kept_parts k.nothing _ g h.nothing;
-}
-
--- What a number and what a truth value is refused with is the same.
-pub numeric_parts : {a : Nodes} (k : EntryParts) (bits : ℕ) → HasEntryParts a k surface.truth → HasEntryParts a k (surface.numeric bits)
-numeric_parts k bits h = record {
-  exprs = h.exprs;
-  failed = h.failed;
-  refusals = record {
-    bad_receiver = h.refusals.bad_receiver;
-    bad_argument = h.refusals.bad_argument;
-    not_initialized = h.refusals.not_initialized;
-    interleaved = h.refusals.interleaved;
-    was_disabled = h.refusals.was_disabled;
-  };
+  exprs = kept_exprs k.exprs g h.exprs;
+  failed = code_kept _ _ g h.failed;
+  refusals = kept_all_refusals k.refusals g h.refusals;
 }
 
 -- What is made of them can be assigned to.

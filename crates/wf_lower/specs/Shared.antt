@@ -2,6 +2,7 @@
 use Rattle.std.specs.Prelude.{ℕ, codes}
 use Rattle.wf_text.specs.Surface.{AnswerKind}
 use Rattle.wf_text.specs.Surface as surface
+use Rattle.wf_meaning.specs.Entry as entry
 use Rattle.c_text.specs.declared.kinds.COp.TheVariants.{Eq}
 use Rattle.c_text.specs.declared.kinds.CUnary.TheVariants.{Not}
 use Rattle.c_text.specs.CNodes.{Nodes}
@@ -9,6 +10,7 @@ use Rattle.c_text.specs.CTree.{Code, finish, leave, unary}
 use Rattle.wf_exprs.specs.Grown.{HasCode, HasExpr, HasNamed}
 use Rattle.wf_exprs.specs.Words.{num, self, two as two_codes}
 use Rattle.wf_lower_stmts.specs.Forms.{when}
+use Rattle.wf_lower.specs.declared.shared.AllRefusals.{AllRefusals}
 use Rattle.wf_lower.specs.declared.shared.EntryExprs.{EntryExprs}
 use Rattle.wf_lower.specs.declared.shared.EntryParts.{EntryParts}
 use Rattle.wf_lower.specs.declared.shared.OwnNames.{OwnNames}
@@ -25,39 +27,46 @@ pub record HasOwnNames (nodes : Nodes) (names : OwnNames) : Type 0 where
   pub count : HasNamed nodes names.count.0 (codes "count")
 
 -- The unit has what entries test and set.
-pub record HasEntryExprs (nodes : Nodes) (k : EntryExprs) : Type 0 where
-  pub life : HasExpr nodes k.life.0 life_code
-  pub active : HasExpr nodes k.active.0 active_code
-  pub two : HasExpr nodes k.two.0 (num 2)
-  pub null : HasExpr nodes k.null.0 (unary Not self)
-  pub raw : HasExpr nodes k.raw.0 (two_codes Eq (num 0) life_code)
-  pub disabled : HasExpr nodes k.disabled.0 (two_codes Eq (num 2) life_code)
-  pub suspended : HasExpr nodes k.suspended.0 (first_is 36)
+pub record HasEntryExprs (nodes : Nodes) (exprs : EntryExprs) : Type 0 where
+  pub life : HasExpr nodes exprs.life.0 life_code
+  pub active : HasExpr nodes exprs.active.0 active_code
+  pub two : HasExpr nodes exprs.two.0 (num 2)
+  pub null : HasExpr nodes exprs.null.0 (unary Not self)
+  pub raw : HasExpr nodes exprs.raw.0 (two_codes Eq (num 0) life_code)
+  pub disabled : HasExpr nodes exprs.disabled.0 (two_codes Eq (num 2) life_code)
+  pub suspended : HasExpr nodes exprs.suspended.0 (first_is 36)
 
 -- A call that is refused with this status.
 abbrev pub refusal : AnswerKind → (status : ℕ) → Code
 refusal kind status = leave (refused_with kind status) finish
 
 -- The unit has what a call is refused with, by what its method answers.
-pub record HasRefusals (nodes : Nodes) (k : Refusals) (kind : AnswerKind) : Type 0 where
-  pub bad_receiver : HasCode nodes k.bad_receiver.0 (refusal kind 4)
-  pub bad_argument : HasCode nodes k.bad_argument.0 (refusal kind 5)
-  pub not_initialized : HasCode nodes k.not_initialized.0 (refusal kind 6)
-  pub interleaved : HasCode nodes k.interleaved.0 (refusal kind 7)
-  pub was_disabled : HasCode nodes k.was_disabled.0 (refusal kind 8)
+pub record HasRefusals (nodes : Nodes) (refusals : Refusals) (kind : AnswerKind) : Type 0 where
+  pub bad_receiver : HasCode nodes refusals.bad_receiver.0 (refusal kind entry.bad_receiver)
+  pub bad_argument : HasCode nodes refusals.bad_argument.0 (refusal kind entry.bad_argument)
+  pub not_initialized : HasCode nodes refusals.not_initialized.0 (refusal kind entry.not_initialized)
+  pub interleaved : HasCode nodes refusals.interleaved.0 (refusal kind entry.interleaved)
+  pub was_disabled : HasCode nodes refusals.was_disabled.0 (refusal kind entry.was_disabled)
+
+-- What the calls of all methods are refused with. Of a number and of a truth value that is the same.
+pub record HasAllRefusals (nodes : Nodes) (refusals : AllRefusals) : Type 0 where
+  pub status : HasRefusals nodes refusals.status surface.status
+  pub value : HasRefusals nodes refusals.value surface.truth
+  pub nothing : HasRefusals nodes refusals.nothing surface.nothing
 
 -- After the body of a coroutine, an error disables.
 abbrev pub settle_error : Code
 settle_error = when (first_is 35) (disable finish) finish
 
--- The unit has the parts of entries of methods that answer this.
-pub record HasEntryParts (nodes : Nodes) (k : EntryParts) (kind : AnswerKind) : Type 0 where
-  pub exprs : HasEntryExprs nodes k.exprs
-  pub failed : HasCode nodes k.failed.0 settle_error
-  pub refusals : HasRefusals nodes k.refusals kind
+-- The unit has the parts of the entries of methods that answer this.
+pub record HasEntryParts (nodes : Nodes) (parts : EntryParts) (kind : AnswerKind) : Type 0 where
+  pub exprs : HasEntryExprs nodes parts.exprs
+  pub failed : HasCode nodes parts.failed.0 settle_error
+  pub refusals : HasRefusals nodes parts.refusals kind
 
-pub record HasShared (nodes : Nodes) (k : Shared) : Type 0 where
-  pub names : HasOwnNames nodes k.names
-  pub status : HasEntryParts nodes k.status surface.status
-  pub value : HasEntryParts nodes k.value surface.truth
-  pub nothing : HasEntryParts nodes k.nothing surface.nothing
+-- The unit has all that the functions of all methods have in common.
+pub record HasShared (nodes : Nodes) (shared : Shared) : Type 0 where
+  pub names : HasOwnNames nodes shared.names
+  pub exprs : HasEntryExprs nodes shared.exprs
+  pub failed : HasCode nodes shared.failed.0 settle_error
+  pub refusals : HasAllRefusals nodes shared.refusals

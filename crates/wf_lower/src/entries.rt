@@ -21,19 +21,19 @@ ghost use Rattle.wf_exprs.specs.Names.{body_name as named_body, entry_name as na
 ghost use Rattle.wf_exprs.specs.Scopes.{are_named, is_named};
 ghost use Rattle.wf_exprs.specs.Words.{num, self, two as two_codes};
 ghost use Rattle.wf_lower_stmts.specs.BodyNodes.{HasWords, is_spelt_method};
-ghost use Rattle.wf_lower_stmts.specs.Forms.{status_local, when as when_code};
+ghost use Rattle.wf_lower_stmts.specs.Forms.{when as when_code};
 ghost use Rattle.wf_lower_blocks.specs.Calls.{HasGiven, HasValue};
-ghost use Rattle.wf_lower.specs.Bodies.{active as active_code, answer_in as answer_code, answer_locals as locals_for_answer, answered as answered_code, declared, disable as disable_code, disable_if_marked as disable_if_marked_code, entry_function as entry_item, first_is as first_is_code, handed as handed_codes, life as life_code, params_of as params_for, refuse as refuse_code, refused_with as refused_with_code, result_of as result_for, settle as settle_code, settle_if_coroutine as settle_if_coroutine_code, table as table_code, when_any as when_any_code, when_disabled as when_disabled_code, when_other as when_other_code, when_wrong as when_wrong_code, wrong_arg as wrong_arg_codes, wrong_args as wrong_args_codes};
+ghost use Rattle.wf_lower.specs.Bodies.{active as active_code, answer_in as answer_code, answer_locals as locals_for_answer, answered as answered_code, declared, disable as disable_code, disable_if_marked as disable_if_marked_code, entry_function as entry_item, first_is as first_is_code, handed as handed_codes, life as life_code, params_of as params_for, refuse as refuse_code, result_of as result_for, settle as settle_code, settle_if_coroutine as settle_if_coroutine_code, table as table_code, when_any as when_any_code, when_disabled as when_disabled_code, when_other as when_other_code, when_wrong as when_wrong_code, wrong_arg as wrong_arg_codes, wrong_args as wrong_args_codes};
 ghost use Rattle.wf_lower.specs.Made.{HasItemTree, HasLocalTrees, HasParamTrees, IsResult};
 ghost use Rattle.wf_lower.specs.Shared.{HasEntryExprs, HasEntryParts, HasShared, settle_error as settle_error_code};
 ghost use Rattle.wf_lower.specs.Methods.{AddsGiven, AddsTests, HasTests, after_body as after_body_code, answers_in, any_of, begins_apart, body_call as body_call_code, method_in, test_trees};
 
 use crate::declaring::{params_of, result_of, zero_local};
+use crate::shared::{EntryParts, Shared};
 use c_text::{
     CArg, CCall, CExpr, CExprId, CItem, CList, CLocal, CNameId, COp, CParam, CStmtId, CType,
     Linkage, Unit,
 };
-use crate::shared::{EntryParts, Shared};
 use std::alloc::Global;
 use std::marker::Model;
 use wf_ast::{Method, Ty, Typed, Var};
@@ -147,22 +147,22 @@ impl<'a> Entry<'a> {
 }
 
 /// The receiver is disabled.
-fn disable(k: &EntryParts, u: &mut Unit, rest: CStmtId) -> Result<CStmtId, NoMemory>
-    requires exprs { HasEntryExprs u.old k.now.exprs }
+fn disable(parts: &EntryParts, u: &mut Unit, rest: CStmtId) -> Result<CStmtId, NoMemory>
+    requires exprs { HasEntryExprs u.old parts.now.exprs }
     requires rest { rest.0 < length u.old.stmts }
     ensures grows { Grows u.old u.new }
     ensures made { IfOk result (λ code. HasCode u.new code.0 (disable_code (code_of u.old rest.0))) }
 {
-    assign(u, k.exprs.life, k.exprs.two, rest)
+    assign(u, parts.exprs.life, parts.exprs.two, rest)
 }
 
 fn disable_if_marked(
     e: &Entry,
-    k: &EntryParts,
+    parts: &EntryParts,
     u: &mut Unit,
     rest: CStmtId,
 ) -> Result<CStmtId, NoMemory>
-    requires exprs { HasEntryExprs u.old k.now.exprs }
+    requires exprs { HasEntryExprs u.old parts.now.exprs }
     requires rest { rest.0 < length u.old.stmts }
     ensures grows { Grows u.old u.new }
     ensures made { IfOk result (λ code. HasCode u.new code.0 (disable_if_marked_code e.now.method.mark (code_of u.old rest.0))) }
@@ -170,7 +170,7 @@ fn disable_if_marked(
     if e.is_pure() {
         Ok(rest)
     } else {
-        disable(k, u, rest)
+        disable(parts, u, rest)
     }
 }
 
@@ -349,23 +349,23 @@ fn either_of(alloc: Global, u: &mut Unit, tests: &[CExprId]) -> Result<CExprId, 
 }
 
 /// A call with a wrong argument is refused.
-fn refuse_argument(e: &Entry, k: &EntryParts, u: &mut Unit) -> Result<CStmtId, NoMemory>
-    requires { HasEntryParts u.old k.now (answers_in e.now) }
+fn refuse_argument(e: &Entry, parts: &EntryParts, u: &mut Unit) -> Result<CStmtId, NoMemory>
+    requires { HasEntryParts u.old parts.now (answers_in e.now) }
     ensures grows { Grows u.old u.new }
     ensures made { IfOk result (λ code. HasCode u.new code.0 (disable_if_marked_code e.now.method.mark (refuse_code (method_in e.now) 5))) }
 {
-    disable_if_marked(e, k, u, k.refusals.bad_argument)
+    disable_if_marked(e, parts, u, parts.refusals.bad_argument)
 }
 
 /// The row of these tests.
 fn when_any(
     e: &Entry,
-    k: &EntryParts,
+    parts: &EntryParts,
     u: &mut Unit,
     tests: &[CExprId],
     rest: CStmtId,
 ) -> Result<CStmtId, NoMemory>
-    requires parts { HasEntryParts u.old k.now (answers_in e.now) }
+    requires parts { HasEntryParts u.old parts.now (answers_in e.now) }
     requires tests { HasExprs (length u.old.exprs) tests.now }
     requires apart { begins_apart (test_trees u.old tests.now) ≡ true }
     requires rest { rest.0 < length u.old.stmts }
@@ -376,49 +376,49 @@ fn when_any(
         return Ok(rest);
     }
     let test = either_of(e.alloc(), u, tests)?;
-    let body = refuse_argument(e, k, u)?;
+    let body = refuse_argument(e, parts, u)?;
     when(u, test, body, rest)
 }
 
 /// The row of wrong arguments.
 fn when_wrong(
     e: &Entry,
-    k: &EntryParts,
+    parts: &EntryParts,
     u: &mut Unit,
     rest: CStmtId,
 ) -> Result<CStmtId, NoMemory>
-    requires parts { HasEntryParts u.old k.now (answers_in e.now) }
+    requires parts { HasEntryParts u.old parts.now (answers_in e.now) }
     requires rest { rest.0 < length u.old.stmts }
     ensures grows { Grows u.old u.new }
     ensures made { IfOk result (λ code. HasCode u.new code.0 (when_wrong_code (method_in e.now) (code_of u.old rest.0))) }
 {
     let tests = wrong_args(e, u)?;
-    when_any(e, k, u, tests.as_slice(), rest)
+    when_any(e, parts, u, tests.as_slice(), rest)
 }
 
 /// A call of a disabled receiver is refused.
 fn refuse_disabled(
     e: &Entry,
-    k: &EntryParts,
+    parts: &EntryParts,
     u: &mut Unit,
     rest: CStmtId,
 ) -> Result<CStmtId, NoMemory>
-    requires parts { HasEntryParts u.old k.now (answers_in e.now) }
+    requires parts { HasEntryParts u.old parts.now (answers_in e.now) }
     requires rest { rest.0 < length u.old.stmts }
     ensures grows { Grows u.old u.new }
     ensures made { IfOk result (λ code. HasCode u.new code.0 (when_code (two_codes Eq (num 2) life_code) (refuse_code (method_in e.now) 8) (code_of u.old rest.0))) }
 {
-    when(u, k.exprs.disabled, k.refusals.was_disabled, rest)
+    when(u, parts.exprs.disabled, parts.refusals.was_disabled, rest)
 }
 
 /// The row of a disabled receiver.
 fn when_disabled(
     e: &Entry,
-    k: &EntryParts,
+    parts: &EntryParts,
     u: &mut Unit,
     rest: CStmtId,
 ) -> Result<CStmtId, NoMemory>
-    requires parts { HasEntryParts u.old k.now (answers_in e.now) }
+    requires parts { HasEntryParts u.old parts.now (answers_in e.now) }
     requires rest { rest.0 < length u.old.stmts }
     ensures grows { Grows u.old u.new }
     ensures made { IfOk result (λ code. HasCode u.new code.0 (when_disabled_code (method_in e.now) (code_of u.old rest.0))) }
@@ -426,67 +426,62 @@ fn when_disabled(
     if e.is_pure() {
         Ok(rest)
     } else {
-        refuse_disabled(e, k, u, rest)
+        refuse_disabled(e, parts, u, rest)
     }
 }
 
 /// `(self->active && (self->active != N))`
-fn is_other(
-    alloc: Global,
-    k: &EntryParts,
-    u: &mut Unit,
-    own: u64,
-) -> Result<CExprId, NoMemory>
-    requires { HasEntryExprs u.old k.now.exprs }
+fn is_other(alloc: Global, parts: &EntryParts, u: &mut Unit, own: u64) -> Result<CExprId, NoMemory>
+    requires { HasEntryExprs u.old parts.now.exprs }
     ensures grows { Grows u.old u.new }
     ensures made { IfOk result (λ it. HasExpr u.new it.0 (two_codes Both active_code (two_codes Ne active_code (num own)))) }
 {
-    let active = k.exprs.active;
+    let active = parts.exprs.active;
     let own = number(u, own)?;
     let differs = two(alloc, u, COp::Ne, active, own)?;
     two(alloc, u, COp::Both, active, differs)
 }
 
 /// A call while another coroutine is active is refused.
-fn refuse_other(e: &Entry, k: &EntryParts, u: &mut Unit) -> Result<CStmtId, NoMemory>
-    requires { HasEntryParts u.old k.now (answers_in e.now) }
+fn refuse_other(e: &Entry, parts: &EntryParts, u: &mut Unit) -> Result<CStmtId, NoMemory>
+    requires { HasEntryParts u.old parts.now (answers_in e.now) }
     ensures grows { Grows u.old u.new }
     ensures made { IfOk result (λ code. HasCode u.new code.0 (disable_code (refuse_code (method_in e.now) 7))) }
 {
-    disable(k, u, k.refusals.interleaved)
+    disable(parts, u, parts.refusals.interleaved)
 }
 
 /// A call of a coroutine while another one is active is refused.
 fn when_not_own(
     e: &Entry,
-    k: &EntryParts,
+    parts: &EntryParts,
     u: &mut Unit,
     rest: CStmtId,
 ) -> Result<CStmtId, NoMemory>
-    requires parts { HasEntryParts u.old k.now (answers_in e.now) }
+    requires parts { HasEntryParts u.old parts.now (answers_in e.now) }
     requires rest { rest.0 < length u.old.stmts }
     ensures grows { Grows u.old u.new }
     ensures made { IfOk result (λ code. HasCode u.new code.0 (when_code (two_codes Both active_code (two_codes Ne active_code (num (e.now.number + 1)))) (disable_code (refuse_code (method_in e.now) 7)) (code_of u.old rest.0))) }
 {
-    let body = refuse_other(e, k, u)?;
-    let test = is_other(e.alloc(), k, u, e.active_number())?;
+    let body = refuse_other(e, parts, u)?;
+    let test = is_other(e.alloc(), parts, u, e.active_number())?;
     when(u, test, body, rest)
 }
 
 /// The row of another active coroutine.
 fn when_other(
     e: &Entry,
-    k: &EntryParts,
+    parts: &EntryParts,
     u: &mut Unit,
     rest: CStmtId,
 ) -> Result<CStmtId, NoMemory>
-    requires parts { HasEntryParts u.old k.now (answers_in e.now) }
+    requires parts { HasEntryParts u.old parts.now (answers_in e.now) }
     requires rest { rest.0 < length u.old.stmts }
     ensures grows { Grows u.old u.new }
     ensures made { IfOk result (λ code. HasCode u.new code.0 (when_other_code e.now.number (method_in e.now) (code_of u.old rest.0))) }
 {
     if e.is_coroutine() {
-        when_not_own(e, k, u, rest)
+        when_not_own(e, parts, u, rest)
     } else {
         Ok(rest)
     }
@@ -495,105 +490,90 @@ fn when_other(
 /// The rows of a receiver that isn't ready.
 fn when_unready(
     e: &Entry,
-    k: &EntryParts,
+    parts: &EntryParts,
     u: &mut Unit,
     rest: CStmtId,
 ) -> Result<CStmtId, NoMemory>
-    requires parts { HasEntryParts u.old k.now (answers_in e.now) }
+    requires parts { HasEntryParts u.old parts.now (answers_in e.now) }
     requires rest { rest.0 < length u.old.stmts }
     ensures grows { Grows u.old u.new }
     ensures made { IfOk result (λ code. HasCode u.new code.0 (when_code (unary Not self) (refuse_code (method_in e.now) 4) (when_code (two_codes Eq (num 0) life_code) (refuse_code (method_in e.now) 6) (code_of u.old rest.0)))) }
 {
-    let rest = when(u, k.exprs.raw, k.refusals.not_initialized, rest)?;
-    when(u, k.exprs.null, k.refusals.bad_receiver, rest)
+    let rest = when(u, parts.exprs.raw, parts.refusals.not_initialized, rest)?;
+    when(u, parts.exprs.null, parts.refusals.bad_receiver, rest)
 }
 
 /// The entry table.
-fn table(
-    e: &Entry,
-    k: &EntryParts,
-    u: &mut Unit,
-    rest: CStmtId,
-) -> Result<CStmtId, NoMemory>
-    requires parts { HasEntryParts u.old k.now (answers_in e.now) }
+fn table(e: &Entry, parts: &EntryParts, u: &mut Unit, rest: CStmtId) -> Result<CStmtId, NoMemory>
+    requires parts { HasEntryParts u.old parts.now (answers_in e.now) }
     requires rest { rest.0 < length u.old.stmts }
     ensures grows { Grows u.old u.new }
     ensures made { IfOk result (λ code. HasCode u.new code.0 (table_code e.now.number (method_in e.now) (code_of u.old rest.0))) }
 {
-    let rest = when_other(e, k, u, rest)?;
-    let rest = when_wrong(e, k, u, rest)?;
-    let rest = when_disabled(e, k, u, rest)?;
-    when_unready(e, k, u, rest)
+    let rest = when_other(e, parts, u, rest)?;
+    let rest = when_wrong(e, parts, u, rest)?;
+    let rest = when_disabled(e, parts, u, rest)?;
+    when_unready(e, parts, u, rest)
 }
 
 /// `self->active = N;`
-fn set_active(
-    k: &EntryParts,
-    u: &mut Unit,
-    n: u64,
-    rest: CStmtId,
-) -> Result<CStmtId, NoMemory>
-    requires exprs { HasEntryExprs u.old k.now.exprs }
+fn set_active(parts: &EntryParts, u: &mut Unit, n: u64, rest: CStmtId) -> Result<CStmtId, NoMemory>
+    requires exprs { HasEntryExprs u.old parts.now.exprs }
     requires rest { rest.0 < length u.old.stmts }
     ensures grows { Grows u.old u.new }
     ensures made { IfOk result (λ code. HasCode u.new code.0 (assign_code active_code (num n) (code_of u.old rest.0))) }
 {
     let n = number(u, n)?;
-    assign(u, k.exprs.active, n, rest)
+    assign(u, parts.exprs.active, n, rest)
 }
 
 /// `active` is set, and nothing follows.
-fn set_active_at_end(k: &EntryParts, u: &mut Unit, n: u64) -> Result<CStmtId, NoMemory>
-    requires { HasEntryExprs u.old k.now.exprs }
+fn set_active_at_end(parts: &EntryParts, u: &mut Unit, n: u64) -> Result<CStmtId, NoMemory>
+    requires { HasEntryExprs u.old parts.now.exprs }
     ensures grows { Grows u.old u.new }
     ensures made { IfOk result (λ code. HasCode u.new code.0 (assign_code active_code (num n) finish_code)) }
 {
     let end = finish(u)?;
-    set_active(k, u, n, end)
+    set_active(parts, u, n, end)
 }
 
 /// A suspension makes active, and an error disables.
-fn settle_status(
-    e: &Entry,
-    k: &EntryParts,
-    u: &mut Unit,
-    own: u64,
-) -> Result<CStmtId, NoMemory>
-    requires { HasEntryParts u.old k.now (answers_in e.now) }
+fn settle_status(e: &Entry, parts: &EntryParts, u: &mut Unit, own: u64) -> Result<CStmtId, NoMemory>
+    requires { HasEntryParts u.old parts.now (answers_in e.now) }
     ensures grows { Grows u.old u.new }
     ensures made { IfOk result (λ code. HasCode u.new code.0 (when_code (first_is_code 36) (assign_code active_code (num own) finish_code) settle_error_code)) }
 {
-    let body = set_active_at_end(k, u, own)?;
-    when(u, k.exprs.suspended, body, k.failed)
+    let body = set_active_at_end(parts, u, own)?;
+    when(u, parts.exprs.suspended, body, parts.failed)
 }
 
 /// After the body of a coroutine: a suspension makes it active, every other end leaves none active, and an error disables.
 #[tactic(auto, unfolding(c_text::specs::CSpelling::is_reserved))]
-fn settle(e: &Entry, k: &EntryParts, u: &mut Unit, rest: CStmtId) -> Result<CStmtId, NoMemory>
-    requires parts { HasEntryParts u.old k.now (answers_in e.now) }
+fn settle(e: &Entry, parts: &EntryParts, u: &mut Unit, rest: CStmtId) -> Result<CStmtId, NoMemory>
+    requires parts { HasEntryParts u.old parts.now (answers_in e.now) }
     requires rest { rest.0 < length u.old.stmts }
     ensures grows { Grows u.old u.new }
     ensures made { IfOk result (λ code. HasCode u.new code.0 (settle_code e.now.number (code_of u.old rest.0))) }
 {
-    let body = settle_status(e, k, u, e.active_number())?;
+    let body = settle_status(e, parts, u, e.active_number())?;
     let status = variable(u, b"status")?;
     let rest = when(u, status, body, rest)?;
-    set_active(k, u, 0, rest)
+    set_active(parts, u, 0, rest)
 }
 
 fn settle_if_coroutine(
     e: &Entry,
-    k: &EntryParts,
+    parts: &EntryParts,
     u: &mut Unit,
     rest: CStmtId,
 ) -> Result<CStmtId, NoMemory>
-    requires parts { HasEntryParts u.old k.now (answers_in e.now) }
+    requires parts { HasEntryParts u.old parts.now (answers_in e.now) }
     requires rest { rest.0 < length u.old.stmts }
     ensures grows { Grows u.old u.new }
     ensures made { IfOk result (λ code. HasCode u.new code.0 (settle_if_coroutine_code e.now.number (method_in e.now) (code_of u.old rest.0))) }
 {
     if e.is_coroutine() {
-        settle(e, k, u, rest)
+        settle(e, parts, u, rest)
     } else {
         Ok(rest)
     }
@@ -691,18 +671,18 @@ fn handed(alloc: Global, u: &mut Unit, params: &[CParam]) -> Result<CList<CArg>,
 /// What comes after the call of the body.
 fn after_body(
     e: &Entry,
-    k: &EntryParts,
+    parts: &EntryParts,
     u: &mut Unit,
     answer: Option<CExprId>,
 ) -> Result<CStmtId, NoMemory>
-    requires parts { HasEntryParts u.old k.now (answers_in e.now) }
+    requires parts { HasEntryParts u.old parts.now (answers_in e.now) }
     requires there { IfSome answer (λ e. e.0 < length u.old.exprs) }
     requires answer { value_in (expr_of u.old) answer ≡ answer_code (answers_in e.now) }
     ensures grows { Grows u.old u.new }
     ensures made { IfOk result (λ code. HasCode u.new code.0 (after_body_code e.now)) }
 {
     let rest = answered(u, answer)?;
-    settle_if_coroutine(e, k, u, rest)
+    settle_if_coroutine(e, parts, u, rest)
 }
 
 /// The name of the body.
@@ -739,17 +719,17 @@ fn result_of_entry(e: &Entry) -> Option<CType>
 /// The call of the body, and what comes after it.
 fn call_body(
     e: &Entry,
-    k: &EntryParts,
+    parts: &EntryParts,
     u: &mut Unit,
     params: &[CParam],
 ) -> Result<CStmtId, NoMemory>
-    requires parts { HasEntryParts u.old k.now (answers_in e.now) }
+    requires parts { HasEntryParts u.old parts.now (answers_in e.now) }
     requires params { HasParams u.old params.now }
     ensures grows { Grows u.old u.new }
     ensures made { IfOk result (λ code. HasCode u.new code.0 (body_call_code e.now (map (param_tree u.old.names) params.now))) }
 {
     let answer = answer_in(u, e.answers())?;
-    let rest = after_body(e, k, u, answer)?;
+    let rest = after_body(e, parts, u, answer)?;
     let function = name_of_body(e, u)?;
     let args = handed(e.alloc(), u, params)?;
     call(u, answer, CCall { function, args }, rest)
@@ -758,27 +738,27 @@ fn call_body(
 /// The code of the entry.
 fn entry_code(
     e: &Entry,
-    k: &EntryParts,
+    parts: &EntryParts,
     u: &mut Unit,
     params: &[CParam],
 ) -> Result<CStmtId, NoMemory>
-    requires parts { HasEntryParts u.old k.now (answers_in e.now) }
+    requires parts { HasEntryParts u.old parts.now (answers_in e.now) }
     requires params { HasParams u.old params.now }
     ensures grows { Grows u.old u.new }
     ensures made { IfOk result (λ code. HasCode u.new code.0 (table_code e.now.number (method_in e.now) (body_call_code e.now (map (param_tree u.old.names) params.now)))) }
 {
-    let rest = call_body(e, k, u, params)?;
-    table(e, k, u, rest)
+    let rest = call_body(e, parts, u, params)?;
+    table(e, parts, u, rest)
 }
 
 /// The entry as a function.
-fn entry_of(e: &Entry, k: &EntryParts, u: &mut Unit) -> Result<CItem, NoMemory>
-    requires { HasEntryParts u.old k.now (answers_in e.now) }
+fn entry_of(e: &Entry, parts: &EntryParts, u: &mut Unit) -> Result<CItem, NoMemory>
+    requires { HasEntryParts u.old parts.now (answers_in e.now) }
     ensures grows { Grows u.old u.new }
     ensures made { IfOk result (λ item. HasItemTree u.new item (entry_item (package_of e.now.nodes) e.now.number (method_in e.now))) }
 {
     let params = params_of_entry(e, u)?;
-    let body = entry_code(e, k, u, params.as_slice())?;
+    let body = entry_code(e, parts, u, params.as_slice())?;
     let locals = answer_locals(e.alloc(), u, e.answers())?;
     let name = name_of_entry(e, u)?;
     Ok(CItem::Function {
@@ -806,5 +786,5 @@ pub(crate) fn entry_function(
     ensures made { IfSome (slice_get (package_of t.now).methods m.0) (λ it. IfOk result (λ item. HasItemTree u.new item (entry_item (package_of t.now) m.0 it))) }
 {
     let e = Entry::new(alloc, t, m);
-    entry_of(&e, shared.parts(e.answers()), u)
+    entry_of(&e, &shared.parts(e.answers()), u)
 }

@@ -179,7 +179,11 @@ fn all_functions(p: &Source, u: &mut Unit) -> Result<Vec<CItem>, NoMemory>
     ensures grows { Grows u.old u.new }
     ensures made { IfOk result (λ functions. HasFunctionTrees u.new functions.items (all_functions_of (package_of p.now.t.now))) }
 {
-    let count = p.t.struct_order().len().saturating_add(p.t.order().len().saturating_mul(2));
+    let count = p
+        .t
+        .struct_order()
+        .len()
+        .saturating_add(p.t.order().len().saturating_mul(2));
     let mut functions = Vec::with_capacity(p.alloc, count)?;
     add_all_initialize(p, u, &mut functions)?;
     add_methods(p, u, &mut functions)?;

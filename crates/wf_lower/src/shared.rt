@@ -1,6 +1,6 @@
 // What the functions of all methods have in common: each is put into the unit once, and a method's functions take its number.
 
-ghost use Rattle.std.specs.Prelude.{◌≡◌, ◌<◌, length, codes, IfOk};
+ghost use Rattle.std.specs.Prelude.{IfOk};
 ghost use Rattle.wf_bufs.specs.SurfaceViews.{answer_kind_of};
 ghost use Rattle.c_text.specs.CNodes.{Nodes};
 ghost use Rattle.c_text.specs.CTree as c;
@@ -11,8 +11,8 @@ ghost use Rattle.wf_exprs.specs.Grown.{Grows, HasCode, HasExpr};
 ghost use Rattle.wf_exprs.specs.Words.{num, self, two as two_codes};
 ghost use Rattle.wf_lower_stmts.specs.Forms.{status_local};
 ghost use Rattle.wf_lower_blocks.specs.Calls.{HasValue};
-ghost use Rattle.wf_lower.specs.Bodies.{active as active_code, disable as disable_code, first_is as first_is_code, life as life_code, refused_with as refused_with_code};
-ghost use Rattle.wf_lower.specs.Shared.{HasEntryExprs, HasEntryParts, HasOwnNames, HasRefusals, HasShared, refusal as refusal_code, settle_error as settle_error_code};
+ghost use Rattle.wf_lower.specs.Bodies.{disable as disable_code, first_is as first_is_code, life as life_code, refused_with as refused_with_code};
+ghost use Rattle.wf_lower.specs.Shared.{HasAllRefusals, HasEntryExprs, HasEntryParts, HasOwnNames, HasRefusals, HasShared, refusal as refusal_code, settle_error as settle_error_code};
 
 use c_text::{CExprId, CNameId, COp, CStmtId, Unit};
 use std::alloc::Global;
@@ -66,6 +66,28 @@ pub(crate) struct Refusals {
     pub was_disabled: CStmtId,
 }
 
+/// The refusals of methods that answer a status, a number or a truth value, and nothing.
+#[derive(Clone, Copy)]
+pub(crate) struct AllRefusals {
+    pub status: Refusals,
+    pub value: Refusals,
+    pub nothing: Refusals,
+}
+
+impl AllRefusals {
+    /// Those of the methods that answer this.
+    fn of(&self, answers: AnswerKind) -> Refusals
+        ensures { (nodes : Nodes) → HasAllRefusals nodes self.now → HasRefusals nodes result (answer_kind_of answers) }
+    {
+        match answers {
+            AnswerKind::Status => self.status,
+            AnswerKind::Number(_) => self.value,
+            AnswerKind::Flag => self.value,
+            AnswerKind::Nothing => self.nothing,
+        }
+    }
+}
+
 /// What the entries of methods that answer the same are made of.
 #[derive(Clone, Copy)]
 pub(crate) struct EntryParts {
@@ -75,29 +97,30 @@ pub(crate) struct EntryParts {
     pub refusals: Refusals,
 }
 
-/// All of it. Entries differ by whether their methods answer a status, a number or a truth value, or nothing.
+/// All that the functions of all methods have in common.
 #[derive(Clone, Copy)]
 pub(crate) struct Shared {
     pub names: OwnNames,
-    pub status: EntryParts,
-    pub value: EntryParts,
-    pub nothing: EntryParts,
+    pub exprs: EntryExprs,
+    /// After the body of a coroutine: an error disables.
+    pub failed: CStmtId,
+    pub refusals: AllRefusals,
 }
 
 impl Shared {
     /// The parts of the entries of methods that answer this.
-    pub(crate) fn parts(&self, answers: AnswerKind) -> &EntryParts
-        ensures { (nodes : Nodes) → HasShared nodes self.now → HasEntryParts nodes result.now (answer_kind_of answers) }
+    pub(crate) fn parts(&self, answers: AnswerKind) -> EntryParts
+        ensures { (nodes : Nodes) → HasShared nodes self.now → HasEntryParts nodes result (answer_kind_of answers) }
     {
-        match answers {
-            AnswerKind::Status => &self.status,
-            AnswerKind::Number(_) => &self.value,
-            AnswerKind::Flag => &self.value,
-            AnswerKind::Nothing => &self.nothing,
+        EntryParts {
+            exprs: self.exprs,
+            failed: self.failed,
+            refusals: self.refusals.of(answers),
         }
     }
 }
 
+/// The names of the text's own locals.
 #[tactic(auto, unfolding(c_text::specs::CSpelling::is_reserved))]
 fn put_names(u: &mut Unit) -> Result<OwnNames, NoMemory>
     ensures grows { Grows u.old u.new }
@@ -182,7 +205,7 @@ fn settle_error(alloc: Global, u: &mut Unit) -> Result<CStmtId, NoMemory>
     when(u, test, body, rest)
 }
 
-/// What entries set, and whether the body's status is a suspension.
+/// What entries test and set.
 #[tactic(auto, unfolding(c_text::specs::CSpelling::is_reserved))]
 fn put_exprs(alloc: Global, u: &mut Unit) -> Result<EntryExprs, NoMemory>
     ensures grows { Grows u.old u.new }
@@ -253,34 +276,34 @@ fn put_refusals(u: &mut Unit, answers: AnswerKind) -> Result<Refusals, NoMemory>
     })
 }
 
-/// The parts of the entries of methods that answer this.
-fn put_parts(alloc: Global, u: &mut Unit, answers: AnswerKind) -> Result<EntryParts, NoMemory>
+/// What the calls of all methods are refused with.
+fn put_all_refusals(u: &mut Unit) -> Result<AllRefusals, NoMemory>
     ensures grows { Grows u.old u.new }
-    ensures made { IfOk result (λ it. HasEntryParts u.new it (answer_kind_of answers)) }
+    ensures made { IfOk result (λ it. HasAllRefusals u.new it) }
 {
-    let exprs = put_exprs(alloc, u)?;
-    let failed = settle_error(alloc, u)?;
-    let refusals = put_refusals(u, answers)?;
-    Ok(EntryParts {
-        exprs,
-        failed,
-        refusals,
+    let status = put_refusals(u, AnswerKind::Status)?;
+    let value = put_refusals(u, AnswerKind::Flag)?;
+    let nothing = put_refusals(u, AnswerKind::Nothing)?;
+    Ok(AllRefusals {
+        status,
+        value,
+        nothing,
     })
 }
 
-/// Puts it into the unit. `Err` where memory was refused.
+/// Puts all that the functions have in common into the unit. `Err` where memory was refused.
 pub(crate) fn put_shared(alloc: Global, u: &mut Unit) -> Result<Shared, NoMemory>
     ensures grows { Grows u.old u.new }
     ensures made { IfOk result (λ it. HasShared u.new it) }
 {
     let names = put_names(u)?;
-    let status = put_parts(alloc, u, AnswerKind::Status)?;
-    let value = put_parts(alloc, u, AnswerKind::Flag)?;
-    let nothing = put_parts(alloc, u, AnswerKind::Nothing)?;
+    let exprs = put_exprs(alloc, u)?;
+    let failed = settle_error(alloc, u)?;
+    let refusals = put_all_refusals(u)?;
     Ok(Shared {
         names,
-        status,
-        value,
-        nothing,
+        exprs,
+        failed,
+        refusals,
     })
 }

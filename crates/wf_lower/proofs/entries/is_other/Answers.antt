@@ -14,7 +14,7 @@ pub two-requires-2-clause-first : goal.two-requires-2-clause-first
 two-requires-2-clause-first c = (grows_on c.number.ensures.grows c.two.ensures.grows).more_exprs _ c.requires.active.there
 
 pub returns-clause-made : goal.returns-clause-made
-returns-clause-made c = 
+returns-clause-made c =
     let first = c.number.ensures.grows in
     let active = (kept_expr _ _ first c.requires.active).is in
     let later = (kept_expr _ _ (grows_on first c.two.ensures.grows) c.requires.active).is in

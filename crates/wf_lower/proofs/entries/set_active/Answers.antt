@@ -10,7 +10,7 @@ pub assign-requires-clause-target : goal.assign-requires-clause-target
 assign-requires-clause-target c = member_target _ _ _ (kept_expr _ _ c.number.ensures.grows c.requires.exprs.active)
 
 pub returns-clause-made : goal.returns-clause-made
-returns-clause-made c = 
+returns-clause-made c =
     let active = (kept_expr _ _ c.number.ensures.grows c.requires.exprs.active).is in
     let rest = c.number.ensures.grows.stmts c.args.rest.0 c.requires.rest in
     retell_code _ _ _ c.assign.result (assign_as active c.in_ok-n.ensures.made.is rest) c.assign.ensures.made

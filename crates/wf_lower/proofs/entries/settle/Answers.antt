@@ -24,7 +24,7 @@ pub returns-clause-grows : goal.returns-clause-grows
 returns-clause-grows c = grows_on (grows_on (grows_on c.settle_status.ensures.grows c.variable.ensures.grows) c.when.ensures.grows) c.set_active.ensures.grows
 
 pub returns-clause-made : goal.returns-clause-made
-returns-clause-made c = 
+returns-clause-made c =
     let first = grows_on c.settle_status.ensures.grows c.variable.ensures.grows in
     let body = (code_kept _ _ c.variable.ensures.grows c.in_ok-body.ensures.made).is ∙ ap (λ n. when (first_is 36) (assign active (num n) finish) settle_error) c.active_number.ensures in
     let tested = c.in_ok-rest.ensures.made.is ∙ when_as c.in_ok-status.ensures.made.is body (first.stmts c.args.rest.0 c.requires.rest) in

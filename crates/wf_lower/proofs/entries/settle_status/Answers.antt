@@ -11,7 +11,7 @@ pub when-requires-clause-rest : goal.when-requires-clause-rest
 when-requires-clause-rest c = c.set_active_at_end.ensures.grows.more_stmts _ c.requires.failed.there
 
 pub returns-clause-made : goal.returns-clause-made
-returns-clause-made c = 
+returns-clause-made c =
     let g = c.set_active_at_end.ensures.grows in
     retell_code _ _ _ c.when.result (when_as (kept_expr _ _ g c.requires.exprs.suspended).is c.in_ok-body.ensures.made.is (code_kept _ _ g c.requires.failed).is) c.when.ensures.made
 

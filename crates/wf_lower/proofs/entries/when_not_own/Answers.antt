@@ -22,7 +22,7 @@ pub returns-clause-grows : goal.returns-clause-grows
 returns-clause-grows c = grows_on (grows_on c.refuse_other.ensures.grows c.is_other.ensures.grows) c.when.ensures.grows
 
 pub returns-clause-made : goal.returns-clause-made
-returns-clause-made c = 
+returns-clause-made c =
     let test = c.in_ok-test.ensures.made.is ∙ ap (λ n. two Both active (two Ne active (num n))) c.active_number.ensures in
     let body = (code_kept _ _ c.is_other.ensures.grows c.in_ok-body.ensures.made).is in
     let rest = (grows_on c.refuse_other.ensures.grows c.is_other.ensures.grows).stmts c.args.rest.0 c.requires.rest in

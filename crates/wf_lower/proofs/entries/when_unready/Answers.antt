@@ -12,7 +12,7 @@ pub when-requires-2-clause-body : goal.when-requires-2-clause-body
 when-requires-2-clause-body c = c.when.ensures.grows.more_stmts _ c.requires.parts.refusals.bad_receiver.there
 
 pub returns-clause-made : goal.returns-clause-made
-returns-clause-made c = 
+returns-clause-made c =
     let k = c.requires.parts in
     let first = c.when.ensures.grows in
     let test = (kept_expr _ _ first k.exprs.null).is in

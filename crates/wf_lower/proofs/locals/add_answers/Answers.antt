@@ -21,7 +21,7 @@ pub returns-clause-grows : goal.returns-clause-grows
 returns-clause-grows c = grows_on (grows_on c.add_read.ensures.grows c.add_read-2.ensures.grows) c.add_read-3.ensures.grows
 
 pub returns-clause-made : goal.returns-clause-made
-returns-clause-made c = 
+returns-clause-made c =
     let status : List LocalTree = declared text (codes "status") (num 0) ∷ [] in
     let got : List LocalTree = declared (uint U64) (codes "got") (num 0) ∷ [] in
     let left : List LocalTree = declared size (codes "size") (num 0) ∷ [] in

@@ -15,7 +15,7 @@ pub add_read-requires-2-clause-name : goal.add_read-requires-2-clause-name
 add_read-requires-2-clause-name c = c.add_read.ensures.grows.more_names _ c.requires.count.there
 
 pub returns-clause-made : goal.returns-clause-made
-returns-clause-made c = 
+returns-clause-made c =
     let held : List LocalTree = declared (uint U64) (codes "held") (num 0) ∷ [] in
     let count : List LocalTree = declared (uint U8) (codes "count") (num 0) ∷ [] in
     let later = kept_names _ c.add_read.ensures.grows c.requires in
