@@ -35,6 +35,7 @@ pub mod OpenBrackets
 pub mod OrderSums
 pub mod Orders
 pub mod OwnNames
+pub mod PlaceLaw
 pub mod Prefixes
 pub mod Scopes
 pub mod Statuses

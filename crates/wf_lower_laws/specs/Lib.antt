@@ -2,6 +2,7 @@ pub mod JumpLaw
 pub mod TurnLaw
 pub mod LabelLaw
 pub mod LoopLaw
+pub mod PlaceLaw
 pub mod BracketLaw
 pub mod NameLaw
 pub mod FormLaw

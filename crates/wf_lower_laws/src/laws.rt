@@ -9,6 +9,7 @@ ghost use Rattle.wf_lower_laws.specs.KindLaw.{ExpressionsKeepKinds};
 ghost use Rattle.wf_lower_laws.specs.LabelLaw.{TextsAreLabelled};
 ghost use Rattle.wf_lower_laws.specs.LoopLaw.{LoopsAreMarked, LoopsAreSpelt};
 ghost use Rattle.wf_lower_laws.specs.NameLaw.{TextsNameApart};
+ghost use Rattle.wf_lower_laws.specs.PlaceLaw.{BodiesResume, BodiesBreak, BodiesContinue};
 ghost use Rattle.wf_lower_laws.specs.SurfaceLaw.{TextsMeetSurfaces};
 ghost use Rattle.wf_lower_laws.specs.TurnLaw.{LoopAlike, TextsLoopAlike};
 ghost use Rattle.wf_lower_laws.specs.TypeLaw.{TextsAreTyped};
@@ -40,6 +41,22 @@ pub fn labels_of_loops_are_spelt()
 /// source's meaning goes on with.
 pub fn markers_agree()
     ensures { LoopsAreMarked }
+{}
+
+/// In the text of a typed package the body of each coroutine switches on the number of the point where it goes on. After the `case` of a
+/// point stands the rest of the point's statement, and then, item by item, what remains of the source when the point is reached.
+pub fn bodies_resume_at_points()
+    ensures { BodiesResume }
+{}
+
+/// In the body of each method of that text a `break` leads to what follows its loop in the source, item by item.
+pub fn bodies_break_behind_loops()
+    ensures { BodiesBreak }
+{}
+
+/// And a `continue` leads to the test of its loop, and then to what follows the loop in the source, item by item.
+pub fn bodies_continue_at_loops()
+    ensures { BodiesContinue }
 {}
 
 /// The labels of each function of the text of a typed package differ, and each `goto` names one of them. The cases of each `switch`
