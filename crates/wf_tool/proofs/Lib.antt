@@ -5,6 +5,7 @@ pub mod FaultLines
 pub mod JudgingLemmas
 pub mod OrderLemmas
 pub mod OwnTexts
+pub mod PlainRuns
 pub mod RefusalFiles
 pub mod RunLemmas
 pub mod ScriptEnds

@@ -1,6 +1,7 @@
 pub mod Answer
 pub mod Lines
 pub mod OwnTexts
+pub mod Plain
 pub mod Runs
 pub mod Sizes
 pub mod Soundness

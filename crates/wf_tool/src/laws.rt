@@ -2,6 +2,7 @@
 
 ghost use Rattle.wf_tool.specs.Answer.{AnswersAreVerdicts, AnswersExist};
 ghost use Rattle.wf_tool.specs.OwnTexts.{OwnTextsRunAsPackages, UnitTextsRunAlike};
+ghost use Rattle.wf_tool.specs.Plain.{PlainLoadersRunByC};
 ghost use Rattle.wf_tool.specs.Soundness.{AcceptedAreNeverStuck};
 ghost use Rattle.wf_tool.specs.Verdict.{RefusalsHaveFiles, VerdictsExclude, VerdictsExist};
 
@@ -49,4 +50,11 @@ pub fn an_answer_exists()
 pub fn a_text_runs_as_its_package()
     ensures texts { UnitTextsRunAlike }
     ensures packages { OwnTextsRunAsPackages }
+{}
+
+/// Over a plain loader `run` writes the report of a script by `c_run` of the package's C text, and `exec` that by `c_run` of the text
+/// that is handed in: whatever words call for by what the loader tells (clauses `written` and `answered` of `wuffs_tool`), they call for
+/// by `c_run`, and for nothing else.
+pub fn plain_loaders_run_by_c()
+    ensures { PlainLoadersRunByC }
 {}
