@@ -1,5 +1,6 @@
 #!/usr/bin/env python3
-"""Tries wrong rules of bounds, tests/rules/*.edit: with each, the proof that what the rules accept is never stuck must fail.
+"""Tries wrong rules, tests/rules/*.edit: of bounds, with which the proof that what the rules accept is never stuck must fail, and of
+lowering, with which that of its law must.
 
 usage: try_rules.py [--fits] [--clone FOLDER] [NAME..]    all wrong rules are the default
 An edit has a line 'law: CRATE', a line 'file: PATH' with a definition under crates/, and pairs of lines 'old: TEXT' and 'new: TEXT';
