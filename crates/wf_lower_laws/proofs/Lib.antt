@@ -17,6 +17,7 @@ pub mod FormLaw
 pub mod Frames
 pub mod Free
 pub mod Functions
+pub mod HelperLaw
 pub mod ItemNames
 pub mod ItemTypes
 pub mod Items

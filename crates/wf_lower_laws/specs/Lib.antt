@@ -3,6 +3,7 @@ pub mod TurnLaw
 pub mod LabelLaw
 pub mod LoopLaw
 pub mod PlaceLaw
+pub mod HelperLaw
 pub mod BracketLaw
 pub mod NameLaw
 pub mod FormLaw

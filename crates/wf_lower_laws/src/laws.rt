@@ -3,6 +3,7 @@
 ghost use Rattle.wf_ast.specs.TypedPackage.{PackageTree};
 ghost use Rattle.wf_lower_laws.specs.BracketLaw.{TextsAreShallow};
 ghost use Rattle.wf_lower_laws.specs.FormLaw.{TextsAreFormed};
+ghost use Rattle.wf_lower_laws.specs.HelperLaw.{TextsHaveHelpers};
 ghost use Rattle.wf_lower_laws.specs.ItemLaw.{ItemsNameApart};
 ghost use Rattle.wf_lower_laws.specs.JumpLaw.{TextsJumpForward};
 ghost use Rattle.wf_lower_laws.specs.KindLaw.{ExpressionsKeepKinds};
@@ -82,6 +83,12 @@ pub fn names_of_a_function_differ()
 /// `_` in a row and don't end with one, no method is named `initialize`, and the package isn't named `base`.
 pub fn names_of_items_differ()
     ensures { ItemsNameApart }
+{}
+
+/// A text has the function of each saturating operator that a function of it reads, under its name, and no other function under that
+/// name: it is the one that does as it says (`helpers_do_as_they_say` of wf_exprs_laws).
+pub fn texts_have_their_helpers()
+    ensures { TextsHaveHelpers }
 {}
 
 /// In the text of a package that keeps the rules of types, and whose names of items are as above, each item with the name of one of
