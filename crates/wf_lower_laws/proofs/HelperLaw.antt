@@ -54,7 +54,6 @@ module _ {X : Type 0} (name : X → List ℕ) where
 
 -- ---- functions among items
 
-
 fewer : (items : List ItemTree) (l : List ℕ) → is_among (map item_name items) l ≡ false → is_among (map (λ f. f.name) (functions_of items)) l ≡ false
 fewer [] l h = refl
 fewer (struct_item fields name ∷ items) l h = fewer items l (neither (bytes_eq l name) (is_among (map item_name items) l) h).1
