@@ -18,7 +18,7 @@ use Rattle.c_text.specs.CTree.{ExprTree, variable, element, unary, cast, Code, f
 use Rattle.c_text.specs.CTree as c
 use Rattle.wf_exprs.specs.Names.{Names, local_pointer, local_length, field_name, body_name, entry_name, again_label, behind_label}
 use Rattle.wf_exprs.specs.Words.{num, uint_of, two, self, of_self, args}
-use Rattle.wf_exprs.specs.Exprs.{Pair, path_code, lowered_expr, lowered_slice, given, lowered_status, lowered_cond, status_constant, begins_with, io_code, place_code, end_code, bytes_code, there}
+use Rattle.wf_exprs.specs.Exprs.{Pair, path_code, lowered_expr, lowered_slice, given, lowered_status, lowered_cond, status_constant, widened, begins_with, io_code, place_code, end_code, bytes_code, there}
 use Rattle.wf_lower_stmts.specs.Forms.{Form, status_local, got_local, size_local, held_local, count_local, stays, when, put, get, give, suspend, resume_here}
 
 -- Targets. What stands in C for one that takes a single value.
