@@ -1,18 +1,23 @@
 -- The functions of saturating operators stand in a text that reads them, and are found under their names.
-use Rattle.std.proofs.Common.{◌≡◌, ℕ, zero, suc, Bool, true, false, not, ◌||◌, List, [], ◌∷◌, ◌++◌, map, Option, Some, None, nat_eq, refl, sym, ◌∙◌, subst}
-use Rattle.std.specs.Prelude.{if◌then◌else◌, reverse, slice_get, bytes_eq}
+use Rattle.std.proofs.Common.{◌≡◌, ℕ, zero, suc, Bool, true, false, not, ◌||◌, List, [], ◌∷◌, ◌++◌, map, Some, nat_eq, refl, sym, ◌∙◌, subst}
+use Rattle.std.specs.Prelude.{cond, if◌then◌else◌, reverse, slice_get, bytes_eq}
 use Rattle.std.proofs.lemmas.List.{reverse-append}
 use Rattle.wf_ast.specs.TypedPackage.{PackageTree}
 use Rattle.wf_ast.specs.WellTyped.{is_width}
 use Rattle.wf_ast.proofs.Arena.{both_true}
 use Rattle.c_text.specs.CTree.{ItemTree, struct_item, text_item, function_item}
+use Rattle.c_meaning.specs.declared.values.CValue.{CValue}
+use Rattle.c_meaning.specs.CMemory.{Memory}
+use Rattle.c_meaning.specs.CStep.{Meaning, surroundings}
+use Rattle.c_meaning.specs.CCall.{Program, ExprMeaning, program_of, expression_call, expression_meaning, running}
 use Rattle.c_meaning.specs.CTypes.{Function, functions_of, function_named}
 use Rattle.c_meaning.specs.UnitForm.{is_among, all_distinct, item_name}
 use Rattle.wf_exprs.specs.Exprs.{saturating_name}
 use Rattle.wf_exprs.specs.Helpers.{saturating, all_saturating}
 use Rattle.wf_exprs_laws.specs.HelperLaw.{helper}
+use Rattle.wf_exprs_laws.proofs.Saturating.{helper_law}
 use Rattle.wf_lower.specs.Unit.{io_buffer_item, struct_items, all_functions, is_used, used_texts, helper_name, used_helpers, lowered_unit}
-use Rattle.wf_lower_laws.specs.HelperLaw.{HasHelper, TextsHaveHelpers}
+use Rattle.wf_lower_laws.specs.HelperLaw.{Operates, TextsHaveHelpers}
 use Rattle.wf_lower_laws.proofs.Apart.{neither, not_true}
 use Rattle.wf_lower_laws.proofs.Finding.{There, there_first, there_later, there_front, there_behind, found, found_front, found_behind, function_found}
 use Rattle.wf_lower_laws.proofs.Frames.{same_bytes}
@@ -126,12 +131,44 @@ in_text p is_sum bits w u =
     there_behind it (io_buffer_item ∷ struct_items p p.struct_order) _
     (there_behind it (used_texts (all_functions p) 0 p.statuses) _ (there_front it (used_helpers (all_functions p) all_saturating) (all_functions p) (kept (all_functions p) all_saturating it u (among is_sum bits w))))
 
+-- ---- calls in expressions
+
+-- What is found under a name is called by it.
+record IsCalled (p : Program) (fs : List Function) (name : List ℕ) (it : Function) : Type 0 where
+  callee : List ℕ → ExprMeaning
+  is : (memory : Memory) (given : List CValue) → expression_call p fs name memory given ≡ expression_meaning p it callee memory given
+
+is_called : (p : Program) (fs : List Function) (name : List ℕ) (it : Function) → function_named fs name ≡ Some it → IsCalled p fs name it
+is_called p [] name it e = absurd (cc e)
+is_called p (g ∷ fs) name it e = by (bytes_eq g.name name) refl e (is_called p fs name it)
+  where
+    by : (b : Bool) → bytes_eq g.name name ≡ b → cond b (Some g) (function_named fs name) ≡ Some it → (function_named fs name ≡ Some it → IsCalled p fs name it) → IsCalled p (g ∷ fs) name it
+    by true h e more =
+        let same : g ≡ it = cc e in
+        let P : Function → Type 0 = λ z. IsCalled p (g ∷ fs) name z in
+        subst P same (record { callee = expression_call p fs; is = λ memory given. rw h refl })
+    by false h e more =
+        let r = more e in
+        record { callee = r.callee; is = λ memory given. rw h (r.is memory given) }
+
+operates : (p : Program) (is_sum : Bool) (bits : ℕ) → function_named p.functions (saturating_name is_sum bits) ≡ Some (helper is_sum bits)
+    → (f : Function) (earlier : List Function) (callee : List ℕ → Meaning) (frame : ℕ) (memory : Memory) → function_named earlier (saturating_name is_sum bits) ≡ Some (helper is_sum bits)
+    → Operates is_sum (surroundings (running p f (expression_call p earlier) callee frame) memory) bits
+operates p true bits own f earlier callee frame memory h =
+    let it = is_called p earlier (saturating_name true bits) (helper true bits) h in
+    λ a b ty uy m n w i j k l. helper_law.in_expressions p true bits it.callee (surroundings (running p f (expression_call p earlier) callee frame) memory) w own (λ given. it.is memory given) a b ty uy m n i j k l
+operates p false bits own f earlier callee frame memory h =
+    let it = is_called p earlier (saturating_name false bits) (helper false bits) h in
+    λ a b ty uy m n w i j k l. helper_law.in_expressions p false bits it.callee (surroundings (running p f (expression_call p earlier) callee frame) memory) w own (λ given. it.is memory given) a b ty uy m n i j k l
+
 pub texts_have_helpers : TextsHaveHelpers
 texts_have_helpers p is_sum bits names w u =
     let there = in_text p is_sum bits w u in
     let apart = items_name_apart p names in
     let own = function_there (lowered_unit p) is_sum bits there in
+    let runs = found_back (λ f. f.name) (functions_of (lowered_unit p)) own.0 (helper is_sum bits) (functions_distinct (lowered_unit p) apart) own.1 in
     record {
       declared = function_found (lowered_unit p) there.0 _ _ (saturating_name is_sum bits) _ _ _ apart there.1;
-      runs = found_back (λ f. f.name) (functions_of (lowered_unit p)) own.0 (helper is_sum bits) (functions_distinct (lowered_unit p) apart) own.1;
+      runs = runs;
+      operates = operates (program_of (lowered_unit p)) is_sum bits runs;
     }

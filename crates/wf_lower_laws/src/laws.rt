@@ -86,7 +86,7 @@ pub fn names_of_items_differ()
 {}
 
 /// A text has the function of each saturating operator that a function of it reads, under its name, and no other function under that
-/// name: it is the one that does as it says (`helpers_do_as_they_say` of wf_exprs_laws).
+/// name. So in an expression of a function that stands after it a call of it is the operator, as the law of expressions supposes.
 pub fn texts_have_their_helpers()
     ensures { TextsHaveHelpers }
 {}
