@@ -271,6 +271,43 @@ pub func s.g() base.u16 {
     return this.w | (this.n as base.u16)
 }
 """, ["call p.f x=1 y=254 w=254", "call p.g", "call p.f x=0 y=0 w=0", "call p.g"]),
+    "a part with a start that is copied": ("""\
+pub struct s?(
+    n : base.u64,
+)
+pri func s.own!(g: slice base.u8) base.u64 {
+    return args.g.length()
+}
+pub func s.f!(w: base.io_writer, g: slice base.u8, h: slice base.u8, i: base.u64) base.u64 {
+    var l : slice base.u8
+    var v : base.u64
+    if args.h.length() > 1 {
+        this.n = args.w.copy_from_slice!(s: args.h[1 ..])
+    }
+    l = args.g
+    if args.i <= args.h.length() {
+        v = l.copy_from_slice!(s: args.h[args.i ..])
+        this.n ~mod+= v
+        v = args.w.copy_from_slice!(s: args.h[args.i ..])
+        this.n ~mod+= v
+        v = this.own!(g: args.h[args.i ..])
+        this.n ~mod+= v
+    }
+    if l.length() >= 2 {
+        v = args.w.copy_from_slice!(s: l[1 .. 2])
+        this.n ~mod+= v
+        v = l.copy_from_slice!(s: l[2 ..])
+        this.n ~mod+= v
+    }
+    if l.length() >= 1 {
+        l = l[1 ..]
+    }
+    if args.g.length() >= 2 {
+        v = l.copy_from_slice!(s: args.g[2 ..])
+    }
+    return this.n ~mod+ v
+}
+""", ["bytes x 010203", "bytes y 0405", "call p.f w=b g=x h=y i=1", "show x", "show b", "call p.f w=b g=null h=null i=0", "call p.f w=b g=y h=x i=3", "show y", "show b"]),
     "a result without a return": ("""\
 pub struct s?(
     n : base.u8,

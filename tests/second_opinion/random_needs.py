@@ -168,7 +168,13 @@ class NeedsWriter:
         if how == 2:
             return [self.in_order(x, y), self.at_most(y, self.length, bits)], f"l = this.a[{x} .. {y}]", self.one_of(x, y)
         base, v = self.one_of(*self.bases()), self.number(64)
-        return [self.in_order(v, f"{base}.length()")], f"l = {base}[{self.one_of(f'{v} ..', f'.. {v}')}]", self.one_of(v, base)
+        part = f"{base}[{self.one_of(f'{v} ..', f'.. {v}')}]"
+        return [self.in_order(v, f"{base}.length()")], self.one_of(f"l = {part}", *self.copies(part)), self.one_of(v, base)
+
+    def copies(self, source):
+        """Calls that copy a slice to where the method may write."""
+        targets = ["l", *(["args.w"] if "w" in self.arguments else [])] if self.mark else []
+        return [f"v = {target}.copy_from_slice!(s: {source})" for target in targets]
 
     def need_slice_element(self):
         base = self.one_of(*self.bases())
