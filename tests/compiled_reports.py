@@ -47,7 +47,6 @@ FURTHER_BUILDS = [["gcc", "-O2"], ["gcc", "-O3"], ["clang", "-O2"]]
 # What compilers may say of random packages, and what is true of these then. Bounds don't look at what never runs: what stands under a
 # comparison that is never met, or after a statement that never goes on.
 TRUE_REMARKS = {
-    "unused-function": "nothing calls a private method",
     "type-limits": "the types of what is compared decide a comparison",
     "tautological-constant-out-of-range-compare": "the types of what is compared decide a comparison",
     "tautological-compare": "a variable is compared with itself",
@@ -326,6 +325,65 @@ pub func s.h() base.bool {
     } endwhile
 }
 """, ["null q s", "call q.f", "call q.g src=b", "call q.h"]),
+    "private methods that nothing calls": ("""\
+pub status "#odd"
+pri struct part!(
+    m : base.u8,
+)
+pri func part.step!() {
+    this.m ~mod+= 1
+}
+pri func part.is_new() base.bool {
+    return this.m == 0
+}
+pub struct s?(
+    n : base.u32,
+    t : part,
+)
+pri func s.pure(a: base.u32[1 ..= 9], f: base.bool, x: slice base.u16) base.u32 {
+    var i : base.u32
+    while i < args.a {
+        i ~mod+= 1
+    } endwhile
+    i = this.twice(a: i)
+    return i
+}
+pri func s.twice(a: base.u32) base.u32 {
+    return args.a ~mod+ args.a
+}
+pri func s.impure!(src: base.io_reader, dst: base.io_writer) base.status {
+    if args.src.length() < 1 {
+        return "#odd"
+    }
+    if args.dst.length() >= 1 {
+        args.dst.write_u8_fast!(a: args.src.peek_u8())
+    }
+    return ok
+}
+pri func s.none!(a: base.u8) {
+    this.n ~sat+= args.a as base.u32
+}
+pri func s.flow?(src: base.io_reader, dst: base.io_writer) {
+    var c : base.u8
+    while true {
+        c = args.src.read_u8?()
+        args.dst.write_u8?(a: c)
+        this.deep?(src: args.src)
+    } endwhile
+}
+pri func s.deep?(src: base.io_reader) {
+    while this.n < 9 {
+        args.src.skip_u32?(n: this.n)
+        this.n ~mod+= 1
+    } endwhile
+}
+pri func s.still?() {
+}
+pub func s.f!() base.u32 {
+    this.n ~mod+= 1
+    return this.n
+}
+""", ["call p.f", "init p", "call p.f", "call p.f"]),
 }
 
 # What stands before the scripts. Only the text before it is compiled at a build's level, so that many scripts cost little.

@@ -4,11 +4,10 @@ use Rattle.std.specs.Prelude.{slice_get}
 use Rattle.std.specs.List.{list_all}
 use Rattle.std.proofs.lemmas.Bool.Decides.{nat_tests}
 use Rattle.wf_text.specs.declared.faults.NoMemory.{NoMemory}
-use Rattle.wf_ast.specs.declared.declarations.Method.{Method}
 use Rattle.wf_ast.specs.declared.typed_code.Block.{Block}
 use Rattle.wf_ast.specs.declared.typed_nodes.TypedNodes.{TypedNodes}
 use Rattle.wf_ast.specs.TypedInvariant.{IsTyped, block_below}
-use Rattle.wf_ast.specs.TypedPackage.{MethodTree, PackageTree, method_of, package_of}
+use Rattle.wf_ast.specs.TypedPackage.{MethodTree, PackageTree, package_of}
 use Rattle.wf_ast.specs.TypedTrees.{block_of}
 use Rattle.wf_points.specs.PointNumbers.{PointTable, number_at, point_number}
 use Rattle.c_text.specs.declared.nodes.CItem.{CItem}
@@ -20,12 +19,13 @@ use Rattle.wf_lower_stmts.specs.BodyNodes.{BodyTree, form_in}
 use Rattle.wf_lower_stmts.specs.Forms.{Form, form_of}
 use Rattle.wf_lower_stmts.specs.declared.walks.StartedNumbers.{StartedNumbers}
 use Rattle.wf_lower.specs.Bodies.{body_function, entry_function, functions_of}
+use Rattle.wf_lower.specs.Called.{has_entry}
 use Rattle.wf_lower.specs.Made.{AddsFunctions, HasFunctionTrees, HasItemTree, IsReady}
 use Rattle.wf_lower.specs.Methods.{IsBodyOf}
 use Rattle.wf_lower.specs.Parts.{entry_functions}
 use Rattle.wf_lower.specs.Unit.{initialize_functions, method_functions, struct_items}
 use Rattle.wf_lower.proofs.Kept.{FitsFunctionTree, function_of, functions_as, functions_on, functions_push, no_functions}
-use Rattle.wf_lower.proofs.Known.{body_same, body_there, count_same, in_order, made_there, methods_same, structs_in_order}
+use Rattle.wf_lower.proofs.Known.{body_same, body_there, count_same, in_order, methods_same, structs_in_order}
 use Rattle.wf_lower.proofs.PartLaws.{front_nil}
 use Rattle.wf_lower.proofs.Walks.{all_here}
 
@@ -110,26 +110,20 @@ body_push a b nodes of n ps qs x (Err refused) e here g h pushed = pushed
 some_at : {A : Type 0} (P : A → Type 0) (o : Option A) (a : A) → o ≡ Some a → IfSome o P → P a
 some_at P o a e h = subst (λ it. IfSome it P) e h
 
--- The entry of a method, where it is public.
-module _ (nodes : TypedNodes) (typed : IsTyped nodes) (n : ℕ) (m : Method) (is : slice_get nodes.methods n ≡ Some m) where
-  public_same : (it : MethodTree) → slice_get (package_of nodes).methods n ≡ Some it → it.public ≡ m.public
-  public_same it known =
-      let made = made_there nodes typed n m is in
-      let e : it ≡ method_of nodes m made.0 = cc (made.1, known) in
-      ap (λ (x : MethodTree). x.public) e
-
-  pub entry_push : (a b : Nodes) (ps qs : List CItem) (x : CItem) (r : Result (Unit {0}) NoMemory) → m.public ≡ true → Grows a b → IfSome (slice_get (package_of nodes).methods n) (λ it. HasItemTree b x (entry_function (package_of nodes) n it)) → OnOk r (qs ≡ ps ++ x ∷ [])
+-- The entry of a method, where it has one.
+module _ (nodes : TypedNodes) (n : ℕ) (has : Bool) (is : (it : MethodTree) → slice_get (package_of nodes).methods n ≡ Some it → has ≡ has_entry (package_of nodes) n it) where
+  pub entry_push : (a b : Nodes) (ps qs : List CItem) (x : CItem) (r : Result (Unit {0}) NoMemory) → has ≡ true → Grows a b → IfSome (slice_get (package_of nodes).methods n) (λ it. HasItemTree b x (entry_function (package_of nodes) n it)) → OnOk r (qs ≡ ps ++ x ∷ [])
       → OnOk r ((it : MethodTree) → slice_get (package_of nodes).methods n ≡ Some it → AddsFunctions a b ps qs (entry_functions (package_of nodes) n it))
-  entry_push a b ps qs x (Ok u) public g made pushed = λ it known.
+  entry_push a b ps qs x (Ok u) there g made pushed = λ it known.
       let tree = entry_function (package_of nodes) n it in
       let h : HasItemTree b x tree = some_at (λ other. HasItemTree b x (entry_function (package_of nodes) n other)) (slice_get (package_of nodes).methods n) it known made in
-      let yes : it.public ≡ true = public_same it known ∙ public in
+      let yes : has_entry (package_of nodes) n it ≡ true = sym (is it known) ∙ there in
       functions_same ps qs (tree ∷ []) (entry_functions (package_of nodes) n it) (ap (λ q. if q then tree ∷ [] else []) (sym yes)) (item_push ps qs x tree (Ok u) tt g h pushed)
-  entry_push a b ps qs x (Err refused) public g made pushed = pushed
+  entry_push a b ps qs x (Err refused) there g made pushed = pushed
 
-  pub entry_none : (a : Nodes) (ps : List CItem) → m.public ≡ false → (it : MethodTree) → slice_get (package_of nodes).methods n ≡ Some it → AddsFunctions a a ps ps (entry_functions (package_of nodes) n it)
-  entry_none a ps hidden it known =
-      let no : it.public ≡ false = public_same it known ∙ hidden in
+  pub entry_none : (a : Nodes) (ps : List CItem) → has ≡ false → (it : MethodTree) → slice_get (package_of nodes).methods n ≡ Some it → AddsFunctions a a ps ps (entry_functions (package_of nodes) n it)
+  entry_none a ps none it known =
+      let no : has_entry (package_of nodes) n it ≡ false = sym (is it known) ∙ none in
       functions_same ps ps [] (entry_functions (package_of nodes) n it) (ap (λ q. if q then entry_function (package_of nodes) n it ∷ [] else []) (sym no)) (no_functions ps (unchanged a a refl))
 
 -- Both functions of a method.

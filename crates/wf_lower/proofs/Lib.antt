@@ -1,4 +1,5 @@
 pub mod BodyLaws
+pub mod CallLaws
 pub mod EntryLaws
 pub mod FieldLaws
 pub mod Functions

@@ -23,6 +23,7 @@ use Rattle.wf_exprs.specs.Exprs.{chained, status_constant, io_code}
 use Rattle.wf_exprs.specs.Reads.{code_reads}
 use Rattle.wf_lower_stmts.specs.Forms.{Form, form_of, status_local, got_local, resume_local, when, when_some, is_io, place_in, end_of, restore_locals, restore_started}
 use Rattle.wf_lower_stmts.specs.Lower.{lower, ending, tail_of, top}
+use Rattle.wf_lower.specs.Called.{has_entry}
 
 abbrev pub declared : TypeTree → List ℕ → ExprTree → LocalTree
 declared type name initial = record { kind = type; name = name; initial = Some initial }
@@ -210,4 +211,4 @@ entry_function p n m = function_item External (result_of m) (entry_name p m) (pa
 -- The functions of the method with this number.
 abbrev pub functions_of : PackageTree → (number : ℕ) → Option MethodTree → List ItemTree
 functions_of p n None = []
-functions_of p n (Some m) = body_function (form_of p m) ∷ (if m.public then entry_function p n m ∷ [] else [])
+functions_of p n (Some m) = body_function (form_of p m) ∷ (if has_entry p n m then entry_function p n m ∷ [] else [])

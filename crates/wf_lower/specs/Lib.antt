@@ -1,5 +1,6 @@
 pub mod Agreement
 pub mod Bodies
+pub mod Called
 pub mod DemoText
 pub mod Locals
 pub mod Made

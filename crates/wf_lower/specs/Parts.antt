@@ -4,10 +4,11 @@ use Rattle.wf_ast.specs.TypedPackage.{MethodTree, PackageTree}
 use Rattle.c_text.specs.CTree.{ItemTree}
 use Rattle.wf_exprs.specs.Helpers.{all_saturating, saturating}
 use Rattle.wf_lower.specs.Bodies.{entry_function}
+use Rattle.wf_lower.specs.Called.{has_entry}
 use Rattle.wf_lower.specs.Unit.{all_functions, io_buffer_item, struct_items, used_helpers, used_texts}
 
 abbrev pub entry_functions : PackageTree → (number : ℕ) → MethodTree → List ItemTree
-entry_functions p n m = if m.public then entry_function p n m ∷ [] else []
+entry_functions p n m = if has_entry p n m then entry_function p n m ∷ [] else []
 
 -- What stands before the functions, and all of it.
 abbrev pub items_before : PackageTree → (functions : List ItemTree) → List ItemTree

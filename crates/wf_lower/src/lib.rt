@@ -3,6 +3,7 @@
 
 pub mod agreement;
 mod bodies;
+mod called;
 mod declaring;
 mod entries;
 pub mod examples;

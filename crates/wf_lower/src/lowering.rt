@@ -13,12 +13,14 @@ ghost use Rattle.wf_exprs_nodes.specs.Growth.{GrowsBy};
 ghost use Rattle.wf_exprs_nodes.specs.Marks.{Marks};
 ghost use Rattle.wf_lower_stmts.specs.Forms.{form_of};
 ghost use Rattle.wf_lower.specs.Bodies.{body_function as body_function_of, functions_of};
+ghost use Rattle.wf_lower.specs.Called.{AreCalled};
 ghost use Rattle.wf_lower.specs.Made.{AddsFunctions, AreRead, FitFunctions, FitsFunction, HasFunctionTrees, IsReady, IsSpelt, item_trees};
 ghost use Rattle.wf_lower.specs.Shared.{HasOwnNames, HasShared};
 ghost use Rattle.wf_lower.specs.Parts.{entry_functions, items_before, saturating_widths};
 ghost use Rattle.wf_lower.specs.Unit.{all_functions as all_functions_of, initialize_function as initialize_function_of, initialize_functions, io_buffer_item, is_read_in, lowered_unit, method_functions, struct_items, used_helpers, used_texts};
 
 use crate::bodies::body_function;
+use crate::called::called_methods;
 use crate::entries::entry_function;
 use crate::initializing::initialize_function;
 use crate::shared::{OwnNames, Shared, put_shared};
@@ -118,7 +120,7 @@ fn add_body(
     put_into(functions, item)
 }
 
-/// The entry of a method, where it is public.
+/// The entry of a method, where it has one.
 fn add_entry(
     p: &Source,
     u: &mut Unit,
@@ -128,11 +130,12 @@ fn add_entry(
 ) -> Result<(), NoMemory>
     requires shared { HasShared u.old shared.now }
     requires ready { IsReady p.now.t.now p.now.points.now p.now.started.now }
+    requires called { AreCalled (package_of p.now.t.now) p.now.called.now }
     requires known { m.0 < length p.now.t.now.methods }
     ensures grows { Grows u.old u.new }
     ensures made { OnOk result ((method : MethodTree) → slice_get (package_of p.now.t.now).methods m.0 ≡ Some method → AddsFunctions u.old u.new functions.old.items functions.new.items (entry_functions (package_of p.now.t.now) m.0 method)) }
 {
-    if p.t.method(m).public {
+    if p.has_entry(m) {
         let item = entry_function(p.alloc, p.t, u, m, shared)?;
         put_into(functions, item)
     } else {
@@ -140,7 +143,7 @@ fn add_entry(
     }
 }
 
-/// The body of a method, and its entry where it is public.
+/// The body of a method, and its entry where it has one.
 fn add_method(
     p: &Source,
     u: &mut Unit,
@@ -151,6 +154,7 @@ fn add_method(
 ) -> Result<(), NoMemory>
     requires shared { HasShared u.old shared.now }
     requires ready { IsReady p.now.t.now p.now.points.now p.now.started.now }
+    requires called { AreCalled (package_of p.now.t.now) p.now.called.now }
     requires known { m < length p.now.t.now.methods }
     ensures grows { Grows u.old u.new }
     ensures made { OnOk result (AddsFunctions u.old u.new functions.old.items functions.new.items (functions_of (package_of p.now.t.now) m (slice_get (package_of p.now.t.now).methods m))) }
@@ -160,7 +164,8 @@ fn add_method(
 }
 
 fn add_methods(p: &Source, u: &mut Unit, functions: &mut Vec<CItem>) -> Result<(), NoMemory>
-    requires { IsReady p.now.t.now p.now.points.now p.now.started.now }
+    requires ready { IsReady p.now.t.now p.now.points.now p.now.started.now }
+    requires called { AreCalled (package_of p.now.t.now) p.now.called.now }
     ensures grows { Grows u.old u.new }
     ensures made { OnOk result (AddsFunctions u.old u.new functions.old.items functions.new.items (method_functions (package_of p.now.t.now) (package_of p.now.t.now).order)) }
 {
@@ -175,7 +180,8 @@ fn add_methods(p: &Source, u: &mut Unit, functions: &mut Vec<CItem>) -> Result<(
 
 /// All functions, in the order of the text.
 fn all_functions(p: &Source, u: &mut Unit) -> Result<Vec<CItem>, NoMemory>
-    requires { IsReady p.now.t.now p.now.points.now p.now.started.now }
+    requires ready { IsReady p.now.t.now p.now.points.now p.now.started.now }
+    requires called { AreCalled (package_of p.now.t.now) p.now.called.now }
     ensures grows { Grows u.old u.new }
     ensures made { IfOk result (λ functions. HasFunctionTrees u.new functions.items (all_functions_of (package_of p.now.t.now))) }
 {
@@ -314,7 +320,8 @@ fn add_before(p: &Source, u: &mut Unit, read: &ReadNames) -> Result<(), NoMemory
 
 /// The items of the text.
 fn add_items(p: &Source, u: &mut Unit) -> Result<(), NoMemory>
-    requires { IsReady p.now.t.now p.now.points.now p.now.started.now }
+    requires ready { IsReady p.now.t.now p.now.points.now p.now.started.now }
+    requires called { AreCalled (package_of p.now.t.now) p.now.called.now }
     ensures { OnOk result (GrowsBy (lowered_unit (package_of p.now.t.now)) u.old u.new) }
 {
     u.is_sound();
@@ -332,6 +339,7 @@ pub fn lower(alloc: Global, a: &Accepted) -> Result<Unit, NoMemory>
 {
     let t = a.typed();
     let started = started_by_method(alloc, t)?;
+    let called = called_methods(alloc, t)?;
     let mut u = Unit::new(alloc);
     // A statement of a coroutine often becomes about a dozen of C's, with not as many expressions.
     let stmts = statements(t);
@@ -341,6 +349,7 @@ pub fn lower(alloc: Global, a: &Accepted) -> Result<Unit, NoMemory>
         t,
         points: a.points(),
         started: started.as_slice(),
+        called: called.as_slice(),
     };
     add_items(&p, &mut u)?;
     Ok(u)

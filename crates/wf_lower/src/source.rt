@@ -2,8 +2,9 @@
 
 ghost use Rattle.std.specs.Prelude.{◌≡◌, ◌<◌, length, map, slice_get, Some, IfOk};
 ghost use Rattle.wf_ast.specs.TypedInvariant.{IsTyped};
-ghost use Rattle.wf_ast.specs.TypedPackage.{package_of};
+ghost use Rattle.wf_ast.specs.TypedPackage.{MethodTree, package_of};
 ghost use Rattle.wf_lower_stmts.specs.BodyNodes.{started_of};
+ghost use Rattle.wf_lower.specs.Called.{AreCalled, has_entry as has_entry_of};
 
 use std::alloc::Global;
 use wf_ast::{Sequence, Typed};
@@ -19,6 +20,8 @@ pub(crate) struct Source<'a> {
     pub(crate) points: &'a Points,
     /// The numbers that started statements keep, of each method.
     pub(crate) started: &'a [StartedNumbers],
+    /// Whether a method of the package calls it, of each method.
+    pub(crate) called: &'a [bool],
 }
 
 impl<'a> Source<'a> {
@@ -28,6 +31,16 @@ impl<'a> Source<'a> {
         ensures { slice_get self.now.started.now m.0 ≡ Some result }
     {
         self.started[m.0 as usize]
+    }
+
+    /// Whether a method has an entry.
+    pub(crate) fn has_entry(&self, m: MethodId) -> bool
+        requires typed { IsTyped self.now.t.now }
+        requires called { AreCalled (package_of self.now.t.now) self.now.called.now }
+        requires known { m.0 < length self.now.t.now.methods }
+        ensures { (method : MethodTree) → slice_get (package_of self.now.t.now).methods m.0 ≡ Some method → result ≡ has_entry_of (package_of self.now.t.now) m.0 method }
+    {
+        self.t.method(m).public || !self.called[m.0 as usize]
     }
 }
 

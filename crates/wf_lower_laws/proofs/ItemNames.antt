@@ -13,6 +13,7 @@ use Rattle.c_meaning.specs.UnitForm.{is_among, all_distinct, item_name}
 use Rattle.wf_exprs.specs.Names.{struct_called, status_name}
 use Rattle.wf_exprs.specs.Helpers.{all_saturating}
 use Rattle.wf_lower.specs.Bodies.{functions_of, entry_function}
+use Rattle.wf_lower.specs.Called.{has_entry}
 use Rattle.wf_lower.specs.Unit.{struct_items, initialize_functions, method_functions, all_functions, is_used, used_texts, helper_name, used_helpers, lowered_unit}
 use Rattle.wf_lower_laws.specs.NameLaw.{begins}
 use Rattle.wf_lower_laws.specs.ItemLaw.{is_clean, method_called, method_names, methods_called, HasItemNames, ItemsNameApart}
@@ -165,7 +166,7 @@ module _ (p : PackageTree) (h : HasItemNames p) where
   own_labels n m = map item_name (functions_of p n (Some m))
 
   own_among : (n : ℕ) (m : MethodTree) (l : List ℕ) → is_among (own_labels n m) l ≡ true → MethodOf (method_called p m) l
-  own_among n m l a = by m.public a
+  own_among n m l a = by (has_entry p n m) a
     where
       entry : (bytes_eq l (W (struct_called p m.of) ++ (codes "__" ++ m.name)) ≡ true) ⊎ (false ≡ true) → MethodOf (method_called p m) l
       entry (inl t) = inr ((bytes_eq-Decides l (W (struct_called p m.of) ++ (codes "__" ++ m.name))).0 t ∙ w_more (struct_called p m.of) (codes "__" ++ m.name))
@@ -184,7 +185,7 @@ module _ (p : PackageTree) (h : HasItemNames p) where
           body (inr t) = entry (either_true (bytes_eq l (W (struct_called p m.of) ++ (codes "__" ++ m.name))) false t)
 
   own_distinct : (n : ℕ) (m : MethodTree) → all_distinct (own_labels n m) ≡ true
-  own_distinct n m = by m.public
+  own_distinct n m = by (has_entry p n m)
     where
       by : (b : Bool) → all_distinct ((codes "body_" ++ method_called p m) ∷ map item_name (if b then entry_function p n m ∷ [] else [])) ≡ true
       by false = refl

@@ -19,6 +19,7 @@ use Rattle.wf_exprs.specs.Exprs.{status_constant}
 use Rattle.wf_exprs.specs.Helpers.{all_saturating}
 use Rattle.wf_lower_stmts.specs.Forms.{form_of}
 use Rattle.wf_lower.specs.Bodies.{functions_of as method_items, params_of, result_of, fixed_locals, body_locals, body_code, own_names, touched, body_function, answer_locals, entry_function, entry_code}
+use Rattle.wf_lower.specs.Called.{has_entry}
 use Rattle.wf_lower.specs.Unit.{io_buffer_item, struct_fields, struct_items, initialize_code, initialize_function, initialize_functions, method_functions, all_functions, is_used, used_texts, helper_name, used_helpers, lowered_unit}
 use Rattle.wf_lower_laws.specs.FieldLaw.{is_short, HasFieldNames, HasShortArrays}
 use Rattle.wf_lower_laws.specs.FormLaw.{typed_item}
@@ -364,7 +365,7 @@ module _ (p : PackageTree) (well : well_typed p ≡ true) (named : HasItemNames 
     entry_found : (j : ℕ) (callee : MethodTree) → has acc j ≡ true → slice_get p.methods j ≡ Some callee → callee.public ≡ true
         → FoundAs p n m (structs_of (before_function p items)) (functions_of items) (has acc) given (entry_name p callee) callee
     entry_found j callee k q public =
-        let there = stands_behind (entry_function p j callee) I (method_functions p done) (in_methods p done j callee (known j k) q public) in
+        let there = stands_behind (entry_function p j callee) I (method_functions p done) (in_methods p done j callee (known j k) q (left_or callee.public _ public)) in
         let locals = answer_locals (answers_of callee.mark callee.gives) in
         record {
           function = record { linkage = External; result_type = result_of callee; name = entry_name p callee; params = params_of p callee; locals = locals; body = entry_code p j callee };
@@ -382,13 +383,13 @@ module _ (p : PackageTree) (well : well_typed p ≡ true) (named : HasItemNames 
         body_typed p n m items (items_are items later_items parts) body_there.0 body_there.1 (has acc) given s
         (body_ok p n m (structs_of (before_function p items)) (functions_of items) (has acc) given s rules.result_is rules.body_is calls)
 
-    -- And its entry after it.
-    module _ (public : m.public ≡ true) where
+    -- And its entry after it, where it has one.
+    module _ (entered : has_entry p n m ≡ true) where
       abbrev with_body : List ItemTree
       with_body = items ++ body_function (form_of p m) ∷ []
 
       own_items : method_items p n (slice_get p.methods n) ≡ body_function (form_of p m) ∷ entry_function p n m ∷ []
-      own_items = ap (method_items p n) e ∙ by m.public public
+      own_items = ap (method_items p n) e ∙ by (has_entry p n m) entered
         where
           by : (b : Bool) → b ≡ true → body_function (form_of p m) ∷ (if b then entry_function p n m ∷ [] else []) ≡ body_function (form_of p m) ∷ entry_function p n m ∷ []
           by true k = refl
@@ -399,7 +400,7 @@ module _ (p : PackageTree) (well : well_typed p ≡ true) (named : HasItemNames 
           parts ∙ (ap (λ z. items ++ (z ++ method_functions p rest)) own_items ∙ sym (append_assoc items (body_function (form_of p m) ∷ []) (entry_function p n m ∷ method_functions p rest)))
 
       entry_place : Stands (entry_function p n m) (all_functions p)
-      entry_place = stands_behind (entry_function p n m) I M (in_methods p p.order n m (ordered.each.all n (slice_get_within p.methods n m e)) e public)
+      entry_place = stands_behind (entry_function p n m) I M (in_methods p p.order n m (ordered.each.all n (slice_get_within p.methods n m e)) e entered)
 
       own_entry_typed : typed_item (before_function p with_body) (entry_function p n m) ≡ true
       own_entry_typed =
@@ -420,9 +421,9 @@ module _ (p : PackageTree) (well : well_typed p ≡ true) (named : HasItemNames 
           })
 
     own_from : TypedFrom (before_function p items) (method_items p n (Some m))
-    own_from = (own_body_typed, by m.public refl)
+    own_from = (own_body_typed, by (has_entry p n m) refl)
       where
-        by : (b : Bool) → m.public ≡ b → TypedFrom (before_function p items ++ body_function (form_of p m) ∷ []) (if b then entry_function p n m ∷ [] else [])
+        by : (b : Bool) → has_entry p n m ≡ b → TypedFrom (before_function p items ++ body_function (form_of p m) ∷ []) (if b then entry_function p n m ∷ [] else [])
         by false k = tt
         by true k =
             let P : List ItemTree → Type 0 = λ z. typed_item z (entry_function p n m) ≡ true in

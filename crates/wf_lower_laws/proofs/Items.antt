@@ -7,6 +7,7 @@ use Rattle.wf_exprs.specs.Names.{struct_type, status_name}
 use Rattle.wf_exprs.specs.Helpers.{saturating, all_saturating}
 use Rattle.wf_lower_stmts.specs.Forms.{form_of}
 use Rattle.wf_lower.specs.Bodies.{functions_of, body_function, entry_function}
+use Rattle.wf_lower.specs.Called.{has_entry}
 use Rattle.wf_lower.specs.Unit.{io_buffer_item, struct_fields, struct_items, initialize_function, initialize_functions, method_functions, all_functions, is_used, used_texts, helper_name, used_helpers, lowered_unit}
 
 module _ (P : ItemTree → Type 0) where
@@ -51,7 +52,7 @@ module _ (P : ItemTree → Type 0) where
 
     in_method : (n : ℕ) (m : Option MethodTree) → slice_get p.methods n ≡ m → Each (functions_of p n m)
     in_method n None e = tt
-    in_method n (Some m) e = (h.bodies n m e, each_if m.public (entry_function p n m ∷ []) [] (h.entries n m e, tt) tt)
+    in_method n (Some m) e = (h.bodies n m e, each_if (has_entry p n m) (entry_function p n m ∷ []) [] (h.entries n m e, tt) tt)
 
     in_methods : (ns : List ℕ) → Each (method_functions p ns)
     in_methods [] = tt

@@ -12,6 +12,7 @@ use Rattle.wf_exprs.specs.Names.{status_name}
 use Rattle.wf_exprs.specs.Helpers.{all_saturating}
 use Rattle.wf_exprs.specs.Reads.{code_reads}
 use Rattle.wf_lower.specs.Bodies.{functions_of as method_items, entry_function, only_read}
+use Rattle.wf_lower.specs.Called.{has_entry}
 use Rattle.wf_lower.specs.Unit.{io_buffer_item, struct_items, initialize_functions, method_functions, all_functions, is_read_in, is_used, used_texts, used_helpers}
 use Rattle.wf_lower_laws.specs.NameLaw.{begins}
 use Rattle.wf_lower_laws.proofs.Apart.{left_or, right_or}
@@ -77,7 +78,7 @@ module _ (p : PackageTree) where
 
   method_are : (n : ℕ) (o : Option MethodTree) → AreFunctions (method_items p n o)
   method_are n None = tt
-  method_are n (Some m) = by m.public
+  method_are n (Some m) = by (has_entry p n m)
     where
       by : (b : Bool) → AreFunctions (if b then entry_function p n m ∷ [] else [])
       by true = tt

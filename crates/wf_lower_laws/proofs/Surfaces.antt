@@ -17,6 +17,7 @@ use Rattle.c_meaning.specs.UnitForm.{is_among, all_distinct, item_name, args_par
 use Rattle.wf_exprs.specs.Names.{struct_called, struct_type, entry_name, initialize_name as lowering_name}
 use Rattle.wf_lower_stmts.specs.Forms.{form_of}
 use Rattle.wf_lower.specs.Bodies.{params_of, result_of, functions_of, body_function, answer_locals, entry_code, entry_function}
+use Rattle.wf_lower.specs.Called.{has_entry}
 use Rattle.wf_lower.specs.Unit.{struct_fields, struct_items, initialize_code, initialize_function, initialize_functions, method_functions, all_functions, used_texts, used_helpers, lowered_unit}
 use Rattle.wf_exprs.specs.Helpers.{all_saturating}
 use Rattle.wf_lower_laws.specs.SurfaceLaw.{TextsMeetSurfaces}
@@ -146,15 +147,15 @@ module _ (p : PackageTree) where
           subst P (one_number s x e) (stands_first _ (struct_items p ss))
       by false e k more = stands_later _ _ _ (more k)
 
-  -- A public method's function for callers outside.
-  pub entry_there : (n : ℕ) (m : MethodTree) → m.public ≡ true → Stands (entry_function p n m) (functions_of p n (Some m))
-  entry_there n m h = stands_later _ (body_function (form_of p m)) _ (by m.public h)
+  -- The entry of a method that has one.
+  pub entry_there : (n : ℕ) (m : MethodTree) → has_entry p n m ≡ true → Stands (entry_function p n m) (functions_of p n (Some m))
+  entry_there n m h = stands_later _ (body_function (form_of p m)) _ (by (has_entry p n m) h)
     where
       by : (b : Bool) → b ≡ true → Stands (entry_function p n m) (if b then entry_function p n m ∷ [] else [])
       by true e = stands_first (entry_function p n m) []
       by false e = absurd (cc e)
 
-  pub in_methods : (ns : List ℕ) (n : ℕ) (m : MethodTree) → has ns n ≡ true → slice_get p.methods n ≡ Some m → m.public ≡ true → Stands (entry_function p n m) (method_functions p ns)
+  pub in_methods : (ns : List ℕ) (n : ℕ) (m : MethodTree) → has ns n ≡ true → slice_get p.methods n ≡ Some m → has_entry p n m ≡ true → Stands (entry_function p n m) (method_functions p ns)
   in_methods [] n m h e g = absurd (cc h)
   in_methods (x ∷ ns) n m h e g = by (nat_eq n x) refl h (λ k. in_methods ns n m k e g)
     where
@@ -184,7 +185,7 @@ module _ (p : PackageTree) where
 
     method_there : (n : ℕ) (m : MethodTree) → slice_get p.methods n ≡ Some m → m.public ≡ true → Stands (entry_function p n m) items
     method_there n m e g =
-        function_there (entry_function p n m) (stands_behind (entry_function p n m) (initialize_functions p p.struct_order) (method_functions p p.order) (in_methods p.order n m (o.each.all n (slice_get_within p.methods n m e)) e g))
+        function_there (entry_function p n m) (stands_behind (entry_function p n m) (initialize_functions p p.struct_order) (method_functions p p.order) (in_methods p.order n m (o.each.all n (slice_get_within p.methods n m e)) e (left_or m.public _ g)))
 
     -- A public struct by its number.
     record IsStruct (it : PublicStruct) : Type 0 where

@@ -9,6 +9,7 @@ use Rattle.wf_exprs.specs.Helpers.{all_saturating}
 use Rattle.wf_exprs.specs.Names.{struct_type, status_name}
 use Rattle.wf_lower_stmts.specs.Forms.{form_of}
 use Rattle.wf_lower.specs.Bodies.{functions_of, body_function, entry_function}
+use Rattle.wf_lower.specs.Called.{has_entry}
 use Rattle.wf_lower.specs.Unit.{io_buffer_item, struct_fields, struct_items, initialize_function, initialize_functions, method_functions, all_functions, is_used, used_texts, helper_name, used_helpers, lowered_unit}
 use Rattle.wf_lower_laws.specs.TurnLaw.{loops, item_whiles, text_whiles, TextsLoopAlike}
 use Rattle.wf_lower_laws.proofs.OrderSums.{of_some, along, in_any_order}
@@ -58,8 +59,8 @@ module _ (p : PackageTree) where
   unfolding own_loops
   method_whiles n None = refl
   method_whiles n (Some m) =
-      let entries = if m.public then entry_function p n m ∷ [] else [] in
-      let none = if_whiles 0 m.public (entry_function p n m ∷ []) [] (no_more (entry_function p n m) [] ((loop_alike p).entries n m)) refl in
+      let entries = if has_entry p n m then entry_function p n m ∷ [] else [] in
+      let none = if_whiles 0 (has_entry p n m) (entry_function p n m ∷ []) [] (no_more (entry_function p n m) [] ((loop_alike p).entries n m)) refl in
       omega (arith, sum_by-cons item_whiles (body_function (form_of p m)) entries, (loop_alike p).bodies m, none)
 
   methods_whiles : (ns : List ℕ) → text_whiles (method_functions p ns) ≡ along own_loops p.methods ns

@@ -13,7 +13,7 @@ pub loop-i-init : goal.loop-i-init
 loop-i-init c = record { grows = c.put_shared.ensures.grows; shared = c.in_ok-shared.ensures.made; added = []; adds = no_functions _ c.put_shared.ensures.grows; left = refl }
 
 pub add_method-requires-clause-known : goal.add_method-requires-clause-known
-add_method-requires-clause-known c = method_known c.args.p.now.t.now c.requires.typed c.order-order.result.now c.loop-i.i _ c.order-order.ensures c.loop-i-test.true
+add_method-requires-clause-known c = method_known c.args.p.now.t.now c.requires.ready.typed c.order-order.result.now c.loop-i.i _ c.order-order.ensures c.loop-i-test.true
 
 pub returns-in_err-add_method-clause-grows : goal.returns-in_err-add_method-clause-grows
 returns-in_err-add_method-clause-grows c = grows_on c.loop-i.invariant.grows c.add_method.ensures.grows
