@@ -78,8 +78,12 @@ fn mark_at(t: &Typed, called: &mut Vec<bool>, s: StmtId)
         Stmt::If { arms, otherwise } => mark_if(t, called, s, arms.as_slice(), otherwise),
         Stmt::While { head: _, body } => mark_block(t, called, s, body),
         Stmt::Call { callee, .. } => mark_callee(t, called, *callee),
-        Stmt::Break(_) | Stmt::Continue(_) | Stmt::Return(_) => {}
-        Stmt::Yield(_) | Stmt::Assign { .. } | Stmt::Assert { .. } => {}
+        Stmt::Break(_) => {}
+        Stmt::Continue(_) => {}
+        Stmt::Return(_) => {}
+        Stmt::Yield(_) => {}
+        Stmt::Assign { .. } => {}
+        Stmt::Assert { .. } => {}
     }
 }
 

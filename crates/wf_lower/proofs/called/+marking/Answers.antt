@@ -22,17 +22,17 @@ mark_at-returns-in-Call-clause-marks t c =
 pub mark_at-returns-in-Break-clause-marks : goal.mark_at-returns-in-Break-clause-marks
 mark_at-returns-in-Break-clause-marks t c = sets_none c.args.t.now c.args.s c.node.result.now _ c.node.ensures.calls c.in-Break.is c.args.called.now.items (λ n. refl)
 
-pub mark_at-returns-in-Break-2-clause-marks : goal.mark_at-returns-in-Break-2-clause-marks
-mark_at-returns-in-Break-2-clause-marks t c = sets_none c.args.t.now c.args.s c.node.result.now _ c.node.ensures.calls c.in-Break.is c.args.called.now.items (λ n. refl)
+pub mark_at-returns-in-Continue-clause-marks : goal.mark_at-returns-in-Continue-clause-marks
+mark_at-returns-in-Continue-clause-marks t c = sets_none c.args.t.now c.args.s c.node.result.now _ c.node.ensures.calls c.in-Continue.is c.args.called.now.items (λ n. refl)
 
-pub mark_at-returns-in-Break-3-clause-marks : goal.mark_at-returns-in-Break-3-clause-marks
-mark_at-returns-in-Break-3-clause-marks t c = sets_none c.args.t.now c.args.s c.node.result.now _ c.node.ensures.calls c.in-Break.is c.args.called.now.items (λ n. refl)
+pub mark_at-returns-in-Return-clause-marks : goal.mark_at-returns-in-Return-clause-marks
+mark_at-returns-in-Return-clause-marks t c = sets_none c.args.t.now c.args.s c.node.result.now _ c.node.ensures.calls c.in-Return.is c.args.called.now.items (λ n. refl)
 
 pub mark_at-returns-in-Yield-clause-marks : goal.mark_at-returns-in-Yield-clause-marks
 mark_at-returns-in-Yield-clause-marks t c = sets_none c.args.t.now c.args.s c.node.result.now _ c.node.ensures.calls c.in-Yield.is c.args.called.now.items (λ n. refl)
 
-pub mark_at-returns-in-Yield-2-clause-marks : goal.mark_at-returns-in-Yield-2-clause-marks
-mark_at-returns-in-Yield-2-clause-marks t c = sets_none c.args.t.now c.args.s c.node.result.now _ c.node.ensures.calls c.in-Yield.is c.args.called.now.items (λ n. refl)
+pub mark_at-returns-in-Assign-clause-marks : goal.mark_at-returns-in-Assign-clause-marks
+mark_at-returns-in-Assign-clause-marks t c = sets_none c.args.t.now c.args.s c.node.result.now _ c.node.ensures.calls c.in-Assign.is c.args.called.now.items (λ n. refl)
 
-pub mark_at-returns-in-Yield-3-clause-marks : goal.mark_at-returns-in-Yield-3-clause-marks
-mark_at-returns-in-Yield-3-clause-marks t c = sets_none c.args.t.now c.args.s c.node.result.now _ c.node.ensures.calls c.in-Yield.is c.args.called.now.items (λ n. refl)
+pub mark_at-returns-in-Assert-clause-marks : goal.mark_at-returns-in-Assert-clause-marks
+mark_at-returns-in-Assert-clause-marks t c = sets_none c.args.t.now c.args.s c.node.result.now _ c.node.ensures.calls c.in-Assert.is c.args.called.now.items (λ n. refl)
