@@ -47,8 +47,6 @@ FURTHER_BUILDS = [["gcc", "-O2"], ["gcc", "-O3"], ["clang", "-O2"]]
 # What compilers may say of random packages, and what is true of these then. Bounds don't look at what never runs: what stands under a
 # comparison that is never met, or after a statement that never goes on.
 TRUE_REMARKS = {
-    "type-limits": "the types of what is compared decide a comparison",
-    "tautological-constant-out-of-range-compare": "the types of what is compared decide a comparison",
     "tautological-compare": "a variable is compared with itself",
     "tautological-overlap-compare": "a variable can't be equal to two constants, or is unequal to one of them",
     "self-assign": "a variable is assigned to itself",
@@ -270,6 +268,58 @@ pub func s.g() base.u16 {
     return this.w | (this.n as base.u16)
 }
 """, ["call p.f x=1 y=254 w=254", "call p.g", "call p.f x=0 y=0 w=0", "call p.g"]),
+    "comparisons that types decide": ("""\
+pub struct s?(
+    b : base.u8,
+    a : array[4] base.u8,
+    w : base.u16,
+    u : base.u32,
+)
+pub func s.f(c: base.u8, w: base.u16, u: base.u32, q: base.u64, g: slice base.u8) base.u32 {
+    var m : base.u32
+    if args.c <= 255 {
+        m |= 1
+    }
+    if (args.c > 255) or (255 < this.b) {
+        m |= 2
+    }
+    if (args.c as base.u32) < 1000 {
+        m |= 4
+    }
+    if (300 <> (this.a[args.c & 3] as base.u16)) and ((this.b as base.u64) <= 0xFFFF_FFFF) {
+        m |= 8
+    }
+    if (args.w >= 65535) or (args.w <= 65535) {
+        m |= 16
+    }
+    if ((this.w as base.u32) == 70000) or ((args.w ~mod+ 1) > 65535) {
+        m |= 32
+    }
+    if ((args.u as base.u64) < 5000000000) and (this.u <= 0xFFFF_FFFF) {
+        m |= 64
+    }
+    if (args.u >= 0) and (0 <= args.q) {
+        m |= 128
+    }
+    if (args.q < 0) or (0 > args.c) {
+        m |= 256
+    }
+    if (args.g.length() >= 0) and (args.q <= 0xFFFF_FFFF_FFFF_FFFF) {
+        m |= 512
+    }
+    while (args.c >> 4) >= 255 {
+        m |= 1024
+        break
+    } endwhile
+    if ((args.c ~sat+ 7) as base.u64) >= 0x1_0000_0000 {
+        m |= 2048
+    }
+    if (((args.u & 15) as base.u64) < 0x1_0000_0000) and ((args.c - 0) >= 0) {
+        m |= 4096
+    }
+    return m
+}
+""", ["bytes x 01", "call p.f c=255 w=65535 u=4294967295 q=18446744073709551615 g=x", "call p.f c=0 w=0 u=0 q=0 g=null", "call p.f c=254 w=255 u=65535 q=1 g=x"]),
     "a part with a start that is copied": ("""\
 pub struct s?(
     n : base.u64,

@@ -365,8 +365,57 @@ abbrev pub compared : Order → ExprTree → ExprTree → ExprTree
 compared equal a b = if is_literal a then two Eq a b else same_code a b (is_literal b)
 compared op a b = two (order_op op) a b
 
+-- Compilers say of a comparison that the types of its operands decide it: of one with a constant that is the greatest number of a
+-- cell, or greater. They don't say so of what 0 was added to.
+abbrev pub literal_value : CNumber → ℕ
+literal_value (literals.Int n) = n
+literal_value (literals.Unsigned n) = n
+literal_value (literals.Long n) = n
+
+-- The greatest number of the narrowest cells with which C calculates in a type.
+abbrev pub greatest_of : CTy → ℕ
+greatest_of Int = 255
+greatest_of U32 = 4294967295
+greatest_of U64 = 18446744073709551615
+
+abbrev pub is_beyond : ExprTree → CTy → Bool
+is_beyond (c.number n) ty = nat_le (greatest_of ty) (literal_value n)
+is_beyond e ty = false
+
+abbrev pub plus_zero : ExprTree → CTy → Rated
+plus_zero e ty = rated (two Add e (num 0)) ty
+
+-- In the wider of two types 0 is added to a number.
+abbrev pub plus_zero_in : Rated → CTy → Rated
+plus_zero_in a ty =
+    if nat_lt (rank a.ty) (rank ty) then plus_zero (cast (uint_of (c_width ty)) a.code) (calculated (c_width ty)) else plus_zero a.code a.ty
+
+-- An operand of a comparison, with the other one.
+abbrev pub compared_with : (a b : Rated) → Rated
+compared_with a b = if is_beyond b.code a.ty then plus_zero_in a b.ty else beside a b.ty
+
+-- No number is below 0. A comparison that asks for that is 1 or 0 itself.
+abbrev pub is_literal_zero : ExprTree → Bool
+is_literal_zero (c.number (literals.Int n)) = nat_eq n 0
+is_literal_zero e = false
+
+abbrev pub known_if : (is met : Bool) → Option Bool
+known_if true met = Some met
+known_if false met = None
+
+abbrev pub settled : Order → (left right : ExprTree) → Option Bool
+settled less a b = known_if (is_literal_zero b) false
+settled at_most a b = known_if (is_literal_zero a) true
+settled at_least a b = known_if (is_literal_zero b) true
+settled greater a b = known_if (is_literal_zero a) false
+settled op a b = None
+
+abbrev pub settled_or : Option Bool → ExprTree → ExprTree
+settled_or (Some met) e = num (if met then 1 else 0)
+settled_or None e = e
+
 abbrev pub numbers_compared : Order → Rated → Rated → ExprTree
-numbers_compared op a b = compared op (beside a b.ty).code (beside b a.ty).code
+numbers_compared op a b = settled_or (settled op a.code b.code) (compared op (compared_with a b).code (compared_with b a).code)
 
 abbrev pub is_constant : StatusTree → Bool
 is_constant (status at n) = true

@@ -1,19 +1,19 @@
 // Numbers of C with the type in which C calculates them, and the operators between them. A cast stands where C would calculate
 // in another type than the source, and beyond that round an or that may fill its width, where it is converted.
 
-ghost use Rattle.std.specs.Prelude.{◌≡◌, ◌<◌, true, false, length, IfOk, Some, None};
+ghost use Rattle.std.specs.Prelude.{◌≡◌, ◌<◌, nat_lt, true, false, length, IfOk, Some, None};
 ghost use Rattle.wf_base.specs.BaseTable.{bits_of};
 ghost use Rattle.wf_ast.specs.TypedTrees.{operator_kind};
 ghost use Rattle.c_text.specs.CNodes.{expr_of};
 ghost use Rattle.c_text.specs.CSpelling.{IsLiteral};
 ghost use Rattle.wf_num.specs.CArithmetic.{c_width};
-ghost use Rattle.wf_exprs.specs.Exprs.{balanced as balanced_code, beside as beside_code, calculated as calculated_of, converted as converted_code, cut_off as cut_off_code, factor as factor_code, fills as fills_tree, firm as firm_code, is_filled as is_filled_tree, is_full as is_full_tree, is_or as is_or_op, literal_type as type_of_literal, rank as rank_of, recast as recast_code, saturated as saturated_code, saturating_name as name_of_saturating, suffixed as suffixed_literal, taken as taken_code, widened as widened_code, wider as wider_of};
+ghost use Rattle.wf_exprs.specs.Exprs.{balanced as balanced_code, beside as beside_code, calculated as calculated_of, compared_with as compared_with_code, converted as converted_code, cut_off as cut_off_code, factor as factor_code, fills as fills_tree, firm as firm_code, greatest_of as greatest_in, is_beyond as is_beyond_tree, is_filled as is_filled_tree, is_full as is_full_tree, is_or as is_or_op, literal_type as type_of_literal, literal_value as value_of_literal, plus_zero as plus_zero_code, plus_zero_in as plus_zero_in_code, rank as rank_of, recast as recast_code, saturated as saturated_code, saturating_name as name_of_saturating, suffixed as suffixed_literal, taken as taken_code, widened as widened_code, wider as wider_of};
 ghost use Rattle.wf_exprs.specs.Grown.{Grows, HasExpr, HasNamed};
 ghost use Rattle.wf_exprs.specs.Making.{HasRated, c_op, linked_by, rated_in, small_number};
 ghost use Rattle.wf_exprs.specs.Words.{two as two_trees};
 
 use crate::names::put_numbered;
-use crate::nodes::{called, cast, is_held, is_literal, literal, put, two};
+use crate::nodes::{called, cast, is_held, is_literal, literal, number, put, two};
 use c_text::{CExpr, CExprId, CNameId, CNumber, COp, Unit};
 use std::alloc::Global;
 use wf_ast::Op;
@@ -425,7 +425,7 @@ fn width_in(ty: CTy) -> Width
 }
 
 /// A number beside one of this type: what was calculated in `int` is cast where that is wider.
-pub fn beside(u: &mut Unit, a: Rated, ty: CTy) -> Result<Rated, NoMemory>
+fn beside(u: &mut Unit, a: Rated, ty: CTy) -> Result<Rated, NoMemory>
     requires { a.code.0 < length u.old.exprs }
     ensures grows { Grows u.old u.new }
     ensures made { IfOk result (λ r. HasRated u.new r (beside_code (rated_in u.old a) ty)) }
@@ -434,5 +434,85 @@ pub fn beside(u: &mut Unit, a: Rated, ty: CTy) -> Result<Rated, NoMemory>
         widened(u, width_in(ty), a)
     } else {
         Ok(a)
+    }
+}
+
+/// The number that a literal is.
+fn literal_value(number: CNumber) -> u64
+    ensures { result ≡ value_of_literal number }
+{
+    match number {
+        CNumber::Int(n) => n as u64,
+        CNumber::Unsigned(n) => n as u64,
+        CNumber::Long(n) => n,
+    }
+}
+
+/// The greatest number of the narrowest cells with which C calculates in a type.
+fn greatest_of(ty: CTy) -> u64
+    ensures { result ≡ greatest_in ty }
+{
+    match ty {
+        CTy::Int => 255,
+        CTy::U32 => 4294967295,
+        CTy::U64 => 18446744073709551615,
+    }
+}
+
+/// Whether an expression is a constant that is the greatest number of a cell, or greater.
+fn is_beyond(u: &Unit, e: CExprId, ty: CTy) -> bool
+    requires { e.0 < length u.now.exprs }
+    ensures { result ≡ is_beyond_tree (expr_of u.now e.0) ty }
+{
+    match u.expr(e) {
+        CExpr::Number(n) => greatest_of(ty) <= literal_value(*n),
+        _ => false,
+    }
+}
+
+/// A number with 0 added to it.
+fn plus_zero(alloc: Global, u: &mut Unit, e: CExprId, ty: CTy) -> Result<Rated, NoMemory>
+    requires { e.0 < length u.old.exprs }
+    ensures grows { Grows u.old u.new }
+    ensures made { IfOk result (λ r. HasRated u.new r (plus_zero_code (expr_of u.old e.0) ty)) }
+{
+    let none = number(u, 0)?;
+    let code = two(alloc, u, COp::Add, e, none)?;
+    Ok(Rated { code, ty })
+}
+
+fn is_narrower(a: CTy, b: CTy) -> bool
+    ensures { result ≡ nat_lt (rank_of a) (rank_of b) }
+{
+    rank(a) < rank(b)
+}
+
+/// A number with 0 added to it in the wider of two types.
+fn plus_zero_in(alloc: Global, u: &mut Unit, a: Rated, ty: CTy) -> Result<Rated, NoMemory>
+    requires { a.code.0 < length u.old.exprs }
+    ensures grows { Grows u.old u.new }
+    ensures made { IfOk result (λ r. HasRated u.new r (plus_zero_in_code (rated_in u.old a) ty)) }
+{
+    if is_narrower(a.ty, ty) {
+        let width = width_in(ty);
+        let code = cast(u, width, a.code)?;
+        plus_zero(alloc, u, code, calculated(width))
+    } else {
+        plus_zero(alloc, u, a.code, a.ty)
+    }
+}
+
+/// An operand of a comparison, with the other one. Beside a constant that the operand's type may not have 0 is added to it, since
+/// compilers remark that the type decides.
+pub fn compared_with(alloc: Global, u: &mut Unit, a: Rated, b: Rated) -> Result<Rated, NoMemory>
+    requires operand { a.code.0 < length u.old.exprs }
+    requires other { b.code.0 < length u.old.exprs }
+    ensures grows { Grows u.old u.new }
+    ensures made { IfOk result (λ r. HasRated u.new r (compared_with_code (rated_in u.old a) (rated_in u.old b))) }
+{
+    if is_beyond(u, b.code, a.ty) {
+        plus_zero_in(alloc, u, a, b.ty)
+    } else {
+        beside(u, a, b.ty)
     }
 }

@@ -1,6 +1,6 @@
 -- The law for statuses and conditions.
 use Rattle.std.proofs.Common.{◌≡◌, ℕ, zero, suc, ◌^◌, ◌<◌, Bool, true, false, not, ◌&&◌, ◌||◌, List, [], ◌∷◌, Option, Some, None, refl, sym, ap, ◌∙◌, subst, arith, pos, ◌⊎◌, inl, inr}
-use Rattle.std.specs.Prelude.{if◌then◌else◌, nat_eq, is_some, slice_get, option_map, option_and_then}
+use Rattle.std.specs.Prelude.{if◌then◌else◌, nat_eq, nat_le, nat_lt, is_some, slice_get, option_map, option_and_then}
 use Rattle.std.proofs.lemmas.Bool.{and_parts}
 use Rattle.std.proofs.lemmas.Bool.Decides.{nat_tests}
 use Rattle.wf_text.specs.declared.categories.Category.{Category}
@@ -29,12 +29,12 @@ use Rattle.c_meaning.specs.CExprs.{Surroundings, held_value, combined, truth_val
 use Rattle.c_meaning.specs.CExprs as c
 use Rattle.wf_exprs.specs.Names.{names_of, status_name}
 use Rattle.wf_exprs.specs.Words.{literal, num, two}
-use Rattle.wf_exprs.specs.Exprs.{literal_type, path_code, is_held, is_literal, is_constant, constant_number, constants_compared, held_compared, order_op, Rated, beside, compared, numbers_compared, chained, comparand, status_constant, lowered_status, statuses_compared, begins_with, category_code, lowered_cond}
+use Rattle.wf_exprs.specs.Exprs.{literal_type, path_code, is_held, is_literal, is_constant, constant_number, constants_compared, held_compared, order_op, Rated, compared, compared_with, is_literal_zero, known_if, settled, settled_or, numbers_compared, chained, comparand, status_constant, lowered_status, statuses_compared, begins_with, category_code, lowered_cond}
 use Rattle.wf_exprs_laws.specs.ExprLaw.{Declares, HasConstant, DeclaresStatus, DeclaresCond, IsNull, IsStatusValue, GivesNumber, GivesStatus, cell_behind, Stands}
 use Rattle.wf_exprs_laws.proofs.CNumbers.{comparison-whole}
-use Rattle.wf_exprs_laws.proofs.Operands.{IsNumber, literal-number, chained-value}
+use Rattle.wf_exprs_laws.proofs.Operands.{IsNumber, literal-number, zero-number, chained-value}
 use Rattle.wf_exprs_laws.proofs.Buffers.{buffer-some, reader-type}
-use Rattle.wf_exprs_laws.proofs.Trees.{came, mapped, beside-number, comparand-number}
+use Rattle.wf_exprs_laws.proofs.Trees.{came, mapped, comparand-number, compared_with-number}
 
 -- An expression of C holds or doesn't, as a truth value says.
 pub record CondGives (x : Surroundings) (e : ExprTree) (b : Bool) : Type 0 where
@@ -98,8 +98,47 @@ compared-cond x differs e f a b m n h g = order-cond x differs e f a b m n h g
 compared-cond x at_least e f a b m n h g = order-cond x at_least e f a b m n h g
 compared-cond x greater e f a b m n h g = order-cond x greater e f a b m n h g
 
+-- No number is below 0.
+known-some : (is met t : Bool) → known_if is met ≡ Some t → (is ≡ true) × (met ≡ t)
+known-some true met t h = (refl, cc h)
+known-some false met t h = absurd (cc h)
+
+settled-value : (x : Surroundings) (op : Order) (e f : ExprTree) (a b : CTy) (m n : ℕ) → IsNumber x e a m → IsNumber x f b n → (t : Bool) → settled op e f ≡ Some t → compares op m n ≡ t
+settled-value x less e f a b m n h g t k =
+    let q = known-some (is_literal_zero f) false t k in
+    let z : n ≡ 0 = zero-number x f b n q.0 g in
+    let never : nat_lt m n ≡ false = grind (arith, nat_tests, z) in
+    never ∙ q.1
+settled-value x at_most e f a b m n h g t k =
+    let q = known-some (is_literal_zero e) true t k in
+    let z : m ≡ 0 = zero-number x e a m q.0 h in
+    let always : nat_le m n ≡ true = grind (arith, nat_tests, z) in
+    always ∙ q.1
+settled-value x at_least e f a b m n h g t k =
+    let q = known-some (is_literal_zero f) true t k in
+    let z : n ≡ 0 = zero-number x f b n q.0 g in
+    let always : nat_le n m ≡ true = grind (arith, nat_tests, z) in
+    always ∙ q.1
+settled-value x greater e f a b m n h g t k =
+    let q = known-some (is_literal_zero e) false t k in
+    let z : m ≡ 0 = zero-number x e a m q.0 h in
+    let never : nat_lt n m ≡ false = grind (arith, nat_tests, z) in
+    never ∙ q.1
+settled-value x equal e f a b m n h g t k = absurd (cc k)
+settled-value x differs e f a b m n h g t k = absurd (cc k)
+
+number-cond : (x : Surroundings) (b : Bool) → CondGives x (num (if b then 1 else 0)) b
+number-cond x true = record { at = numeric (number Int 1); value = refl; is = refl }
+number-cond x false = record { at = numeric (number Int 0); value = refl; is = refl }
+
+settled-cond : (x : Surroundings) (o : Option Bool) (e : ExprTree) (t : Bool) → ((met : Bool) → o ≡ Some met → t ≡ met) → CondGives x e t → CondGives x (settled_or o e) t
+settled-cond x (Some met) e t h g = subst (λ b. CondGives x (num (if met then 1 else 0)) b) (sym (h met refl)) (number-cond x met)
+settled-cond x None e t h g = g
+
 numbers-cond : (x : Surroundings) (op : Order) (a b : Rated) (m n : ℕ) → IsNumber x a.code a.ty m → IsNumber x b.code b.ty n → CondGives x (numbers_compared op a b) (compares op m n)
-numbers-cond x op a b m n h g = compared-cond x op (beside a b.ty).code (beside b a.ty).code (beside a b.ty).ty (beside b a.ty).ty m n (beside-number x a b.ty m h) (beside-number x b a.ty n g)
+numbers-cond x op a b m n h g =
+    settled-cond x (settled op a.code b.code) (compared op (compared_with a b).code (compared_with b a).code) (compares op m n) (settled-value x op a.code b.code a.ty b.ty m n h g)
+    (compared-cond x op (compared_with a b).code (compared_with b a).code (compared_with a b).ty (compared_with b a).ty m n (compared_with-number x a b m h) (compared_with-number x b a n g))
 
 -- ---- `and` and `or`
 

@@ -25,7 +25,7 @@ use Rattle.c_meaning.specs.CTypes.{StructDecl, CScope, ExprType, numbers, points
 use Rattle.c_meaning.specs.CExprs.{Surroundings, as_type, combined, from_left, is_object_pointer, operand_values}
 use Rattle.c_meaning.specs.CExprs as c
 use Rattle.wf_exprs.specs.Words.{literal, num, width_of, uint_of, two}
-use Rattle.wf_exprs.specs.Exprs.{calculated, rank, Rated, literal_type, suffixed, recast, firm, balanced, is_filled, taken, with_operand, same_op, chained}
+use Rattle.wf_exprs.specs.Exprs.{calculated, rank, Rated, literal_type, suffixed, recast, firm, balanced, is_filled, taken, is_literal_zero, with_operand, same_op, chained}
 use Rattle.wf_exprs_laws.specs.ExprLaw.{GivesNumber, IsTheNumber}
 use Rattle.wf_exprs_laws.proofs.CNumbers.{by_width, width-limit, same-arithmetic, common-turned}
 
@@ -158,6 +158,13 @@ recast-number bits w x (tree.number (literals.Int k)) ty n h s =
 recast-number bits w x (tree.number (literals.Unsigned k)) ty n h s =
     subst (λ k. IsNumber x (tree.number (suffixed (calculated bits) k)) (calculated bits) n) (sym (same-bits (number U32 k) (number ty n) h.gives.value)) (suffixed-number x (calculated bits) n (width-limit bits n w s))
 recast-number bits w x e ty n h s = cast-number bits w x e ty n h s
+
+-- A literal 0 is 0.
+pub zero-number : (x : Surroundings) (e : ExprTree) (ty : CTy) (n : ℕ) → is_literal_zero e ≡ true → IsNumber x e ty n → n ≡ 0
+zero-number x (tree.number (literals.Int k)) ty n z h =
+    let zero : k ≡ 0 = grind (arith, nat_tests, z) in
+    sym (same-bits (number Int k) (number ty n) h.gives.value) ∙ zero
+zero-number x e ty n z h = absurd (cc z)
 
 -- ---- the type in which two operands are calculated with
 

@@ -5,8 +5,8 @@ use Rattle.std.proofs.lemmas.Bool.{and_parts, or_cases}
 use Rattle.std.proofs.lemmas.Bool.Decides.{nat_tests}
 use Rattle.wf_num.specs.declared.c_arithmetic.CTy.{CTy}
 use Rattle.wf_num.specs.declared.c_arithmetic.CTy.TheVariants.{Int, U32, U64}
-use Rattle.wf_num.specs.CArithmetic.{c_width}
-use Rattle.wf_num.proofs.CLaws.{c_limit}
+use Rattle.wf_num.specs.CArithmetic.{c_width, c_sum}
+use Rattle.wf_num.proofs.CLaws.{c_limit, c_sum-whole}
 use Rattle.wf_base.specs.declared.widths.Width.{Width}
 use Rattle.wf_base.specs.declared.widths.Width.TheVariants.{W8, W16, W32, W64}
 use Rattle.wf_base.specs.BaseTable.{bits_of}
@@ -23,12 +23,13 @@ use Rattle.c_meaning.specs.declared.values.CValue.{CValue}
 use Rattle.c_meaning.specs.declared.values.CValue.TheVariants.{NullPointer as null_pointer}
 use Rattle.c_meaning.specs.CExprs.{Surroundings}
 use Rattle.wf_exprs.specs.Names.{Names, names_of}
-use Rattle.wf_exprs.specs.Words.{num, uint_of}
-use Rattle.wf_exprs.specs.Exprs.{calculated, rank, Rated, rated, is_held, converted, widened, beside, bare, apart, with_zero, xor_operand, is_ones, is_short_ones, is_converted, pair_compared, comparand, is_array, asked_code, lowered, given, lowered_slice, lowered_end}
-use Rattle.c_text.specs.CTree.{cast}
+use Rattle.wf_exprs.specs.Words.{num, uint_of, two}
+use Rattle.wf_exprs.specs.Exprs.{calculated, rank, Rated, rated, is_held, converted, widened, beside, is_beyond, plus_zero, plus_zero_in, compared_with, bare, apart, with_zero, xor_operand, is_ones, is_short_ones, is_converted, pair_compared, comparand, is_array, asked_code, lowered, given, lowered_slice, lowered_end}
+use Rattle.c_text.specs.declared.kinds.COp.TheVariants.{Add}
+use Rattle.c_text.specs.CTree.{ExprTree, cast}
 use Rattle.wf_exprs_laws.specs.ExprLaw.{DeclaresOperator, DeclaresQuestion, Declares, DeclaresSlice, DeclaresEnd, GivesPointer, SpanStands, Stands}
 use Rattle.wf_exprs_laws.proofs.CNumbers.{by_width, width-limit}
-use Rattle.wf_exprs_laws.proofs.Operands.{IsNumber, suffixed-number, literal-number, literal-rank, cast-number, taken-number}
+use Rattle.wf_exprs_laws.proofs.Operands.{IsNumber, Calculates, suffixed-number, literal-number, literal-rank, cast-number, chained-number, calculated-number, taken-number}
 use Rattle.wf_exprs_laws.proofs.Links.{fitted-some, applied-below, linked-number}
 use Rattle.wf_exprs_laws.proofs.Ones.{xor-ones, ones-xor}
 use Rattle.wf_exprs_laws.proofs.Pointers.{element-number, IsEnd, part_length-number, part_pointer-gives, part-some, part-stands}
@@ -122,6 +123,36 @@ beside-number x a ty n h = by (nat_lt (rank a.ty) (rank ty)) refl
     by : (test : Bool) → nat_lt (rank a.ty) (rank ty) ≡ test → IsNumber x (if test then widened (c_width ty) a else a).code (if test then widened (c_width ty) a else a).ty n
     by true e = widened-number (c_width ty) (width-of_type ty) x a n h (in-wider a.ty ty n (grind (arith, nat_tests, e)) h.small)
     by false e = h
+
+-- With 0 added a number is the same.
+sum-zero : (x : Surroundings) (e : ExprTree) (ty : CTy) (n : ℕ) → IsNumber x e ty n → Calculates x (two Add e (num 0)) ty (c_sum ty n 0)
+sum-zero x e Int n h = chained-number x false Add refl e (num 0) Int Int n 0 h (literal-number x 0 (omega arith))
+sum-zero x e U32 n h = chained-number x false Add refl e (num 0) U32 Int n 0 h (literal-number x 0 (omega arith))
+sum-zero x e U64 n h = chained-number x false Add refl e (num 0) U64 Int n 0 h (literal-number x 0 (omega arith))
+
+plus_zero-number : (x : Surroundings) (e : ExprTree) (ty : CTy) (n : ℕ) → IsNumber x e ty n → IsNumber x (plus_zero e ty).code (plus_zero e ty).ty n
+plus_zero-number x e ty n h =
+    let same : n + 0 ≡ n = omega arith in
+    calculated-number x (two Add e (num 0)) ty (c_sum ty n 0) n (sum-zero x e ty n h)
+    (c_sum-whole ty n 0 h.small (omega (arith, h.small)) (omega (arith, h.small)) ∙ ap Some same) h.small
+
+plus_zero_in-number : (x : Surroundings) (a : Rated) (ty : CTy) (n : ℕ) → IsNumber x a.code a.ty n → IsNumber x (plus_zero_in a ty).code (plus_zero_in a ty).ty n
+plus_zero_in-number x a ty n h = by (nat_lt (rank a.ty) (rank ty)) refl
+  where
+    by : (test : Bool) → nat_lt (rank a.ty) (rank ty) ≡ test
+        → IsNumber x (if test then plus_zero (cast (uint_of (c_width ty)) a.code) (calculated (c_width ty)) else plus_zero a.code a.ty).code
+        (if test then plus_zero (cast (uint_of (c_width ty)) a.code) (calculated (c_width ty)) else plus_zero a.code a.ty).ty n
+    by true e =
+        plus_zero-number x (cast (uint_of (c_width ty)) a.code) (calculated (c_width ty)) n
+        (cast-number (c_width ty) (width-of_type ty) x a.code a.ty n h (in-wider a.ty ty n (grind (arith, nat_tests, e)) h.small))
+    by false e = plus_zero-number x a.code a.ty n h
+
+pub compared_with-number : (x : Surroundings) (a b : Rated) (n : ℕ) → IsNumber x a.code a.ty n → IsNumber x (compared_with a b).code (compared_with a b).ty n
+compared_with-number x a b n h = by (is_beyond b.code a.ty)
+  where
+    by : (test : Bool) → IsNumber x (if test then plus_zero_in a b.ty else beside a b.ty).code (if test then plus_zero_in a b.ty else beside a b.ty).ty n
+    by true = plus_zero_in-number x a b.ty n h
+    by false = beside-number x a b.ty n h
 
 -- ---- trees
 

@@ -12,7 +12,7 @@ ghost use Rattle.c_text.specs.CNodes.{expr_of};
 ghost use Rattle.c_text.specs.CTree as c;
 ghost use Rattle.c_text.specs.declared.kinds.COp.TheVariants.{Ne};
 ghost use Rattle.c_text.specs.declared.kinds.CUnary.TheVariants.{Not};
-ghost use Rattle.wf_exprs.specs.Exprs.{category_code, comparand as comparand_of, compared as compared_code, constants_compared as constants_compared_code, held_compared as held_compared_code, lowered_cond, lowered_status, numbers_compared as numbers_compared_code, same_code, statuses_compared as statuses_compared_code};
+ghost use Rattle.wf_exprs.specs.Exprs.{category_code, comparand as comparand_of, compared as compared_code, compared_with as compared_with_code, constants_compared as constants_compared_code, held_compared as held_compared_code, is_literal_zero as is_literal_zero_tree, known_if as known_if_code, lowered_cond, lowered_status, numbers_compared as numbers_compared_code, same_code, settled as settled_code, statuses_compared as statuses_compared_code};
 ghost use Rattle.wf_exprs.specs.Grown.{Grows, HasExpr};
 ghost use Rattle.wf_exprs.specs.Making.{rated_in};
 ghost use Rattle.wf_exprs.specs.Scopes.{path_of};
@@ -22,12 +22,12 @@ ghost use Rattle.wf_exprs_nodes.specs.Trees.{answers_truth};
 use crate::chains::{joins, operation};
 use crate::comparands::comparand;
 use crate::statuses::{constant_number, is_constant, is_of_category, status};
-use c_text::{CExprId, CList, COp, Unit};
+use c_text::{CExpr, CExprId, CList, CNumber, COp, Unit};
 use std::alloc::Global;
 use wf_ast::{Expr, ExprId, Op, Ty, Typed, io_arg};
 use wf_base::BaseSig;
 use wf_exprs::nodes::{is_held, is_literal, negated, two};
-use wf_exprs::rated::{beside, op_of};
+use wf_exprs::rated::{compared_with, op_of};
 use wf_exprs::{BodyNames, Path, Rated};
 use wf_text::{Category, NoMemory};
 
@@ -211,7 +211,7 @@ fn numbers_compared(
     side_by_side(scope.alloc(), u, op, left, right)
 }
 
-// Two numbers, of which C converts the one of the narrower type.
+// Two numbers. Where one is 0, what is compared may be known.
 fn side_by_side(
     alloc: Global,
     u: &mut Unit,
@@ -225,9 +225,64 @@ fn side_by_side(
     ensures grows { Grows u.old u.new }
     ensures made { IfOk result (λ it. HasExpr u.new it.0 (numbers_compared_code (order_in (operator_kind op)) (rated_in u.old a) (rated_in u.old b))) }
 {
-    let left = beside(u, a, b.ty)?;
-    let right = beside(u, b, a.ty)?;
+    match settled(u, op, a.code, b.code) {
+        Some(met) => truth(u, met),
+        None => operands_compared(alloc, u, op, a, b),
+    }
+}
+
+// Two numbers, of which C converts the one of the narrower type.
+fn operands_compared(
+    alloc: Global,
+    u: &mut Unit,
+    op: Op,
+    a: Rated,
+    b: Rated,
+) -> Result<CExprId, NoMemory>
+    requires ordering { IsTrue (is_ordering (operator_kind op)) }
+    requires left { a.code.0 < length u.old.exprs }
+    requires right { b.code.0 < length u.old.exprs }
+    ensures grows { Grows u.old u.new }
+    ensures made { IfOk result (λ it. HasExpr u.new it.0 (compared_code (order_in (operator_kind op)) (compared_with_code (rated_in u.old a) (rated_in u.old b)).code (compared_with_code (rated_in u.old b) (rated_in u.old a)).code)) }
+{
+    let left = compared_with(alloc, u, a, b)?;
+    let right = compared_with(alloc, u, b, a)?;
     compared(alloc, u, op, left.code, right.code)
+}
+
+// What a comparison with 0 comes to: no number is below 0.
+fn settled(u: &Unit, op: Op, a: CExprId, b: CExprId) -> Option<bool>
+    requires ordering { IsTrue (is_ordering (operator_kind op)) }
+    requires left { a.0 < length u.now.exprs }
+    requires right { b.0 < length u.now.exprs }
+    ensures { result ≡ settled_code (order_in (operator_kind op)) (expr_of u.now a.0) (expr_of u.now b.0) }
+{
+    match op {
+        Op::Less => known_if(is_literal_zero(u, b), false),
+        Op::LessOrSame => known_if(is_literal_zero(u, a), true),
+        Op::GreaterOrSame => known_if(is_literal_zero(u, b), true),
+        Op::Greater => known_if(is_literal_zero(u, a), false),
+        Op::Same => None,
+        Op::Differs => None,
+        _ => unreachable!(),
+    }
+}
+
+fn known_if(is: bool, met: bool) -> Option<bool>
+    ensures { result ≡ known_if_code is met }
+{
+    if is { Some(met) } else { None }
+}
+
+// Whether an expression is the literal 0.
+fn is_literal_zero(u: &Unit, e: CExprId) -> bool
+    requires { e.0 < length u.now.exprs }
+    ensures { result ≡ is_literal_zero_tree (expr_of u.now e.0) }
+{
+    match u.expr(e) {
+        CExpr::Number(CNumber::Int(n)) => *n == 0,
+        _ => false,
+    }
 }
 
 fn compared(

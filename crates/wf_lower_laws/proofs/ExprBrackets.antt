@@ -25,7 +25,7 @@ use Rattle.c_text.specs.CTree as c
 use Rattle.wf_exprs.specs.Names.{Names}
 use Rattle.wf_exprs.specs.Words.{num, uint_of, two}
 use Rattle.wf_ast.specs.Value.{same_truth}
-use Rattle.wf_exprs.specs.Exprs.{calculated, rank, Rated, rated, recast, firm, balanced, op_of, with_operand, same_op, chained, saturated, cut_off, taken, is_filled, factor, linked, converted, widened, path_code, Pair, path_pair, is_array, moved, part_pointer, part_length, place_code, bytes_code, peeked, raised, peek_code, asked_code, lowered, lowered_slice, lowered_end, bare, is_ones, is_short_ones, is_converted, apart, with_zero, xor_operand, pair_compared, comparand, beside, given, status_constant, lowered_status, same_code, is_literal, is_held, compared, is_constant, constant_number, constants_compared, held_compared, statuses_compared, begins_with, category_code, lowered_cond}
+use Rattle.wf_exprs.specs.Exprs.{calculated, rank, Rated, rated, recast, firm, balanced, op_of, with_operand, same_op, chained, saturated, cut_off, taken, is_filled, factor, linked, converted, widened, path_code, Pair, path_pair, is_array, moved, part_pointer, part_length, place_code, bytes_code, peeked, raised, peek_code, asked_code, lowered, lowered_slice, lowered_end, bare, is_ones, is_short_ones, is_converted, apart, with_zero, xor_operand, pair_compared, comparand, beside, is_beyond, plus_zero, plus_zero_in, compared_with, settled, settled_or, given, status_constant, lowered_status, same_code, is_literal, is_held, compared, is_constant, constant_number, constants_compared, held_compared, statuses_compared, begins_with, category_code, lowered_cond}
 use Rattle.wf_lower_laws.specs.BracketLaw.{repeats, goes_on, cond_goes_on, num_within, slice_within, end_within, cond_within}
 use Rattle.wf_lower_laws.proofs.Apart.{same_number}
 use Rattle.wf_lower_laws.proofs.OpenBrackets.{ExprOpens, OperandsOpen}
@@ -532,6 +532,22 @@ module _ (names : Names) where
   by_beside : (d k : ℕ) (a : Rated) (ty : CTy) → d + 2 ≤ k → ExprBy d a.code → ExprBy k (beside a ty).code
   by_beside d k a ty l h = by_rated_if k (nat_lt (rank a.ty) (rank ty)) (widened (c_width ty) a) a (by_widened d k (c_width ty) a (omega (arith, l)) (omega (arith, l)) h) (by_more d k a.code (omega (arith, l)) h)
 
+  by_plus_zero : (d k : ℕ) (e : ExprTree) (ty : CTy) → d + 1 ≤ k → ExprBy d e → ExprBy k (plus_zero e ty).code
+  by_plus_zero d k e ty l h = by_two d k Add e (num 0) l h (by_num d 0)
+
+  by_compared_with : (d k : ℕ) (a b : Rated) → 1 ≤ d → d + 2 ≤ k → ExprBy d a.code → ExprBy k (compared_with a b).code
+  by_compared_with d k a b m l h =
+      let it : ExprTree = cast (uint_of (c_width b.ty)) a.code in
+      by_rated_if k (is_beyond b.code a.ty) (plus_zero_in a b.ty) (beside a b.ty)
+      (by_rated_if k (nat_lt (rank a.ty) (rank b.ty)) (plus_zero it (calculated (c_width b.ty))) (plus_zero a.code a.ty)
+      (by_plus_zero (d + 1) k it (calculated (c_width b.ty)) (omega (arith, l)) (by_cast d (d + 1) (uint_of (c_width b.ty)) a.code (omega arith) (omega (arith, m)) h))
+      (by_plus_zero d k a.code a.ty (omega (arith, l)) h))
+      (by_beside d k a b.ty l h)
+
+  by_settled : (k : ℕ) (o : Option Bool) (e : ExprTree) → ExprBy k e → ExprBy k (settled_or o e)
+  by_settled k None e h = h
+  by_settled k (Some met) e h = by_num k (if met then 1 else 0)
+
   bare_by : (d : ℕ) (t : NumTree) → num_within d t ≡ true → ExprBy (5 * d + 5) (lowered names (bare t)).code
   bare_by d (number at n) h = num_by d (number at n) h
   bare_by d (read at of path) h = num_by d (read at of path) h
@@ -647,8 +663,10 @@ module _ (names : Names) where
       let p = both_true (nat_le 1 d) (num_within (d - 1) a && num_within (d - 1) b) h in
       let q = both_true (num_within (d - 1) a) (num_within (d - 1) b) p.1 in
       let l = at_least_one d p.0 in
-      by_compared (5 * (d - 1) + 8) (5 * d + 5) op _ _ (omega (arith, l)) (by_beside (5 * (d - 1) + 6) (5 * (d - 1) + 8) (comparand names a) (comparand names b).ty (omega arith) (comparand_by (d - 1) a q.0))
-      (by_beside (5 * (d - 1) + 6) (5 * (d - 1) + 8) (comparand names b) (comparand names a).ty (omega arith) (comparand_by (d - 1) b q.1))
+      by_settled (5 * d + 5) (settled op (comparand names a).code (comparand names b).code) _
+      (by_compared (5 * (d - 1) + 8) (5 * d + 5) op _ _ (omega (arith, l))
+      (by_compared_with (5 * (d - 1) + 6) (5 * (d - 1) + 8) (comparand names a) (comparand names b) (omega arith) (omega arith) (comparand_by (d - 1) a q.0))
+      (by_compared_with (5 * (d - 1) + 6) (5 * (d - 1) + 8) (comparand names b) (comparand names a) (omega arith) (omega arith) (comparand_by (d - 1) b q.1)))
   cond_by d (same_status at sign a one b) h = by_statuses (5 * d + 5) one a b (omega arith)
   cond_by d (junction at both joined a b) h =
       let p = both_true (nat_le 1 d) (cond_within (if joined && cond_goes_on both a then d else d - 1) a && cond_within (d - 1) b) h in

@@ -25,7 +25,7 @@ use Rattle.c_meaning.specs.CValues.{common}
 use Rattle.c_meaning.specs.CTypes.{CScope, promoted, ExprType, numbers, points_to, zero_literal, byte, as_number, arithmetic_type, sum_type, one_type, test_type, operation_type, operations_type, type_of, operand_types, cast_from, literal_type}
 use Rattle.wf_exprs.specs.Names.{Names}
 use Rattle.wf_exprs.specs.Words.{literal, num, uint_of, width_of, two}
-use Rattle.wf_exprs.specs.Exprs.{calculated, rank, Rated, rated, recast, firm, balanced, with_operand, same_op, chained, cut_off, taken, is_filled, factor, linked, converted, widened, is_held, is_array as is_whole, moved, part_pointer, part_length, io_code, place_code, end_code, bytes_code, peeked, raised, peek_code, asked_code, same_code, compared, is_literal, is_constant, constant_number, constants_compared, held_compared, statuses_compared, begins_with, category_code, lowered, lowered_slice, lowered_end, is_ones, is_short_ones, is_converted, apart, with_zero, xor_operand, pair_compared, comparand, beside, lowered_status, lowered_cond}
+use Rattle.wf_exprs.specs.Exprs.{calculated, rank, Rated, rated, recast, firm, balanced, with_operand, same_op, chained, cut_off, taken, is_filled, factor, linked, converted, widened, is_held, is_array as is_whole, moved, part_pointer, part_length, io_code, place_code, end_code, bytes_code, peeked, raised, peek_code, asked_code, same_code, compared, is_literal, is_constant, constant_number, constants_compared, held_compared, statuses_compared, begins_with, category_code, lowered, lowered_slice, lowered_end, is_ones, is_short_ones, is_converted, apart, with_zero, xor_operand, pair_compared, comparand, beside, is_beyond, plus_zero, plus_zero_in, compared_with, settled, settled_or, lowered_status, lowered_cond}
 use Rattle.wf_lower_laws.proofs.Surfaces.{same_width}
 use Rattle.wf_lower_laws.specs.KindLaw.{IsNum, IsPointer, IsText, IsBuffer, Declares, has_op, has_question, num_served, slice_served, end_served, status_served, cond_served, ExpressionsKeepKinds}
 
@@ -410,6 +410,21 @@ module _ (S : CScope) where
     beside_kind : (a : Rated) (ty : CTy) → IsNum S a.code → IsNum S (beside a ty).code
     beside_kind a ty h = rated_if (nat_lt (rank a.ty) (rank ty)) (widened (c_width ty) a) a (widened_kind (c_width ty) a h) h
 
+    plus_zero_kind : (e : ExprTree) (ty : CTy) → IsNum S e → IsNum S (plus_zero e ty).code
+    plus_zero_kind e ty h = two_kind Add e (num 0) h (num_kind 0)
+
+    compared_with_kind : (a b : Rated) → IsNum S a.code → IsNum S (compared_with a b).code
+    compared_with_kind a b h =
+        let it : ExprTree = cast (uint_of (c_width b.ty)) a.code in
+        rated_if (is_beyond b.code a.ty) (plus_zero_in a b.ty) (beside a b.ty)
+        (rated_if (nat_lt (rank a.ty) (rank b.ty)) (plus_zero it (calculated (c_width b.ty))) (plus_zero a.code a.ty) (plus_zero_kind it (calculated (c_width b.ty)) (cast_kind (c_width b.ty) a.code h))
+        (plus_zero_kind a.code a.ty h))
+        (beside_kind a b.ty h)
+
+    settled_kind : (o : Option Bool) (e : ExprTree) → IsNum S e → IsNum S (settled_or o e)
+    settled_kind None e h = h
+    settled_kind (Some met) e h = num_kind (if met then 1 else 0)
+
     status_kind : (t : StatusTree) → well_status x t ≡ true → status_served knows t ≡ true → IsText S (lowered_status names t)
     status_kind (status at n) w s = d.constants n s
     status_kind (held at path) w s = inr (d.statuses path w)
@@ -433,7 +448,10 @@ module _ (S : CScope) where
         let p = (both_true _ (well_num x a && well_num x b) w).1 in
         let q = both_true (well_num x a) (well_num x b) p in
         let u = both_true (num_served has reads a) (num_served has reads b) s in
-        compared_kind op _ _ (beside_kind (comparand names a) (comparand names b).ty (comparand_kind a (both_true (is_whole_number a) (well_part x a) q.0).1 u.0)) (beside_kind (comparand names b) (comparand names a).ty (comparand_kind b (both_true (is_whole_number b) (well_part x b) q.1).1 u.1))
+        let left = comparand_kind a (both_true (is_whole_number a) (well_part x a) q.0).1 u.0 in
+        let right = comparand_kind b (both_true (is_whole_number b) (well_part x b) q.1).1 u.1 in
+        settled_kind (settled op (comparand names a).code (comparand names b).code) _
+        (compared_kind op _ _ (compared_with_kind (comparand names a) (comparand names b) left) (compared_with_kind (comparand names b) (comparand names a) right))
     condition_kind (same_status at sign a one b) w s =
         let p = both_true (well_status x a) (well_status x b) w in
         let u = both_true (status_served knows a) (status_served knows b) s in

@@ -1,8 +1,0 @@
-use Rattle.wf_exprs.proofs.Growing.{grows_on}
-use Rattle.wf_exprs_nodes.proofs.conditions.side_by_side.Goals as goal
-
-pub returns-in_err-right-clause-grows : goal.returns-in_err-right-clause-grows
-returns-in_err-right-clause-grows c = grows_on c.beside.ensures.grows c.beside-2.ensures.grows
-
-pub returns-clause-grows : goal.returns-clause-grows
-returns-clause-grows c = grows_on (grows_on c.beside.ensures.grows c.beside-2.ensures.grows) c.compared.ensures.grows
