@@ -1,10 +1,11 @@
 -- What a chain of conditions and a comparison are in C.
-use Rattle.std.proofs.Common.{◌≡◌, ℕ, ◌+◌, ◌<◌, ◌≤◌, Bool, true, false, List, [], ◌∷◌, length, map, drop, get_or, refl, sym, ap, ◌∙◌, subst, arith}
+use Rattle.std.proofs.Common.{◌≡◌, ℕ, ◌+◌, ◌<◌, ◌≤◌, Bool, true, false, List, [], ◌∷◌, Result, IfOk, length, map, drop, get_or, refl, sym, ap, ◌∙◌, subst, arith}
 use Rattle.wf_text.specs.declared.place.Place.{Place}
+use Rattle.wf_text.specs.declared.faults.NoMemory.{NoMemory}
 use Rattle.wf_ast.specs.declared.numbers.ExprId.{ExprId}
 use Rattle.wf_ast.specs.declared.types.Ty.{Ty}
 use Rattle.wf_ast.specs.declared.typed_nodes.TypedNodes.{TypedNodes}
-use Rattle.wf_ast.specs.TypedTree.{CondTree, junction, ValueTree}
+use Rattle.wf_ast.specs.TypedTree.{Order, CondTree, junction, ValueTree}
 use Rattle.wf_ast.specs.TypedTrees.{OperatorKind, arithmetic, ordering, joining, num_in, cond_in, status_in, cond_chain, chain_of, comparison, first_sign, tree_of, type_of_node}
 use Rattle.wf_ast.specs.TypedInvariant.{is_state, chain_fits, compares_kinds, is_tree_of}
 use Rattle.wf_ast.specs.NodeKinds.{node_cond}
@@ -12,15 +13,17 @@ use Rattle.wf_ast.specs.OperatorForms.{is_joining, is_ordering, is_equal, order_
 use Rattle.wf_ast.proofs.ChainKinds.{operand_kinds, compares_numbers, compares_statuses}
 use Rattle.c_text.specs.CTree.{ExprTree, operation, Operands, no_operand}
 use Rattle.wf_exprs.specs.Names.{Names}
-use Rattle.wf_exprs.specs.Exprs.{with_operand, chained, statuses_compared, lowered_cond, comparand}
+use Rattle.wf_exprs.specs.Exprs.{Rated, with_operand, chained, statuses_compared, lowered_cond, comparand}
 use Rattle.wf_exprs.specs.Exprs as exprs
-use Rattle.wf_exprs.specs.Making.{c_op}
+use Rattle.wf_exprs.specs.Making.{HasRated, c_op, rated_in}
+use Rattle.wf_exprs.specs.declared.rated.Rated.{Rated as RatedNode}
 use Rattle.wf_exprs.specs.Grown.{HasExpr}
 use Rattle.c_text.specs.declared.ids.CExprId.{CExprId}
 use Rattle.c_text.specs.CNodes.{Nodes, expr_of, operands_in}
 use Rattle.wf_exprs_nodes.specs.Trees.{HasOperands, conditions_behind}
 use Rattle.wf_exprs_nodes.proofs.ChainLaws.{appended, appended_none, appended_one}
 use Rattle.wf_exprs_nodes.proofs.OperandLaws.{has_is}
+use Rattle.wf_exprs_nodes.proofs.SliceLaws.{rated_is}
 use Rattle.std.proofs.Math.ListN.{drop_of_length-le}
 use Rattle.std.proofs.lemmas.List.{drop_more}
 
@@ -94,6 +97,13 @@ module _ (names : Names) where
       compares_statuses (λ op a. statuses_compared (is_equal op) names (status_in a) (status_in b) ≡ lowered_cond names (cond_in (comparison at (first_sign at signs) op a b))) (λ x. refl) (λ x. refl) op a tya tyb h k c
   statuses_as_one at signs ty tya tyb (joining both) a b o h k c = absurd (cc o)
   statuses_as_one at signs ty tya tyb (arithmetic op) a b o h k c = absurd (cc o)
+
+-- Two numbers that a unit has are compared as what they are.
+pub compared_as_are : (u new : Nodes) (op : Order) (a b : RatedNode) (left right : Rated) (r : Result CExprId NoMemory) → HasRated u a left → HasRated u b right
+    → IfOk r (λ e. HasExpr new e.0 (exprs.numbers_compared op (rated_in u a) (rated_in u b))) → IfOk r (λ e. HasExpr new e.0 (exprs.numbers_compared op left right))
+compared_as_are u new op a b left right r h k made =
+    let there : IfOk r (λ e. HasExpr new e.0 (exprs.numbers_compared op left (rated_in u b))) = subst (λ (x : Rated). IfOk r (λ e. HasExpr new e.0 (exprs.numbers_compared op x (rated_in u b)))) (rated_is u a left h) made in
+    subst (λ (x : Rated). IfOk r (λ e. HasExpr new e.0 (exprs.numbers_compared op left x))) (rated_is u b right k) there
 
 -- What is compared is of kinds that compare.
 pub compared_kinds : (nodes : TypedNodes) (ty : Ty) (sort : OperatorKind) (es : List ExprId) (d : ExprId) → is_ordering sort ≡ true → chain_fits nodes sort es ty ≡ true
