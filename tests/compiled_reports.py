@@ -317,6 +317,12 @@ pub func s.f(c: base.u8, w: base.u16, u: base.u32, q: base.u64, g: slice base.u8
     if (((args.u & 15) as base.u64) < 0x1_0000_0000) and ((args.c - 0) >= 0) {
         m |= 4096
     }
+    if ((args.c & 15) == 16) or ((args.w | 1) <> 2) {
+        m |= 8192
+    }
+    if (16 <> (15 & args.u)) and (2 == (args.q | 1)) {
+        m |= 16384
+    }
     return m
 }
 """, ["bytes x 01", "call p.f c=255 w=65535 u=4294967295 q=18446744073709551615 g=x", "call p.f c=0 w=0 u=0 q=0 g=null", "call p.f c=254 w=255 u=65535 q=1 g=x"]),

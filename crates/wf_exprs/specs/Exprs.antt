@@ -1,7 +1,7 @@
 -- What an expression of the source is in C. Its value is the same wherever the source's isn't stuck. A cast stands where C
 -- would calculate in another type than the source: a byte beside a word is converted by C itself. Beyond that one stands round an
 -- or that may fill its width, where it is converted.
-use Rattle.std.specs.Prelude.{ℕ, ◌-◌, ◌*◌, ◌^◌, Bool, true, false, not, ◌&&◌, ◌||◌, if◌then◌else◌, nat_eq, nat_le, nat_lt, List, [], ◌∷◌, ◌++◌, Option, None, Some, bytes_eq, codes, decimal}
+use Rattle.std.specs.Prelude.{ℕ, ◌-◌, ◌*◌, ◌^◌, Bool, true, false, not, ◌&&◌, ◌||◌, if◌then◌else◌, nat_eq, nat_le, nat_lt, List, [], ◌∷◌, ◌++◌, Option, None, Some, bytes_eq, bit_and, codes, decimal}
 use Rattle.wf_text.specs.declared.categories.Category.{Category}
 use Rattle.wf_text.specs.declared.categories.Category.TheVariants.{Fine, Note, Suspension, Fault}
 use Rattle.wf_num.specs.declared.c_arithmetic.CTy.{CTy}
@@ -382,6 +382,27 @@ abbrev pub is_beyond : ExprTree → CTy → Bool
 is_beyond (c.number n) ty = nat_le (greatest_of ty) (literal_value n)
 is_beyond e ty = false
 
+-- They say so too where a mask decides it: an and that clears a bit of the constant, or an or that sets another one.
+abbrev pub masks : COp → (mask other : ℕ) → Bool
+masks BitAnd m n = not (nat_eq (bit_and m n) n)
+masks BitOr m n = not (nat_eq (bit_and m n) m)
+masks op m n = false
+
+abbrev pub is_mask : COp → ExprTree → (other : ℕ) → Bool
+is_mask op (c.number m) n = masks op (literal_value m) n
+is_mask op e n = false
+
+abbrev pub is_masked : ExprTree → (other : ℕ) → Bool
+is_masked (operation op a b others) n = is_mask op a n || is_mask op b n
+is_masked e n = false
+
+abbrev pub mask_decides : (left right : ExprTree) → Bool
+mask_decides a (c.number n) = is_masked a (literal_value n)
+mask_decides a b = false
+
+abbrev pub is_decided : (a b : Rated) → Bool
+is_decided a b = is_beyond b.code a.ty || mask_decides a.code b.code
+
 abbrev pub plus_zero : ExprTree → CTy → Rated
 plus_zero e ty = rated (two Add e (num 0)) ty
 
@@ -392,7 +413,7 @@ plus_zero_in a ty =
 
 -- An operand of a comparison, with the other one.
 abbrev pub compared_with : (a b : Rated) → Rated
-compared_with a b = if is_beyond b.code a.ty then plus_zero_in a b.ty else beside a b.ty
+compared_with a b = if is_decided a b then plus_zero_in a b.ty else beside a b.ty
 
 -- No number is below 0. A comparison that asks for that is 1 or 0 itself.
 abbrev pub is_literal_zero : ExprTree → Bool

@@ -7,7 +7,7 @@ ghost use Rattle.wf_ast.specs.TypedTrees.{operator_kind};
 ghost use Rattle.c_text.specs.CNodes.{expr_of};
 ghost use Rattle.c_text.specs.CSpelling.{IsLiteral};
 ghost use Rattle.wf_num.specs.CArithmetic.{c_width};
-ghost use Rattle.wf_exprs.specs.Exprs.{balanced as balanced_code, beside as beside_code, calculated as calculated_of, compared_with as compared_with_code, converted as converted_code, cut_off as cut_off_code, factor as factor_code, fills as fills_tree, firm as firm_code, greatest_of as greatest_in, is_beyond as is_beyond_tree, is_filled as is_filled_tree, is_full as is_full_tree, is_or as is_or_op, literal_type as type_of_literal, literal_value as value_of_literal, plus_zero as plus_zero_code, plus_zero_in as plus_zero_in_code, rank as rank_of, recast as recast_code, saturated as saturated_code, saturating_name as name_of_saturating, suffixed as suffixed_literal, taken as taken_code, widened as widened_code, wider as wider_of};
+ghost use Rattle.wf_exprs.specs.Exprs.{balanced as balanced_code, beside as beside_code, calculated as calculated_of, compared_with as compared_with_code, converted as converted_code, cut_off as cut_off_code, factor as factor_code, fills as fills_tree, firm as firm_code, greatest_of as greatest_in, is_beyond as is_beyond_tree, is_decided as is_decided_by, is_filled as is_filled_tree, is_full as is_full_tree, is_mask as is_mask_tree, is_masked as is_masked_tree, is_or as is_or_op, literal_type as type_of_literal, literal_value as value_of_literal, mask_decides as mask_decides_tree, masks as masks_number, plus_zero as plus_zero_code, plus_zero_in as plus_zero_in_code, rank as rank_of, recast as recast_code, saturated as saturated_code, saturating_name as name_of_saturating, suffixed as suffixed_literal, taken as taken_code, widened as widened_code, wider as wider_of};
 ghost use Rattle.wf_exprs.specs.Grown.{Grows, HasExpr, HasNamed};
 ghost use Rattle.wf_exprs.specs.Making.{HasRated, c_op, linked_by, rated_in, small_number};
 ghost use Rattle.wf_exprs.specs.Words.{two as two_trees};
@@ -470,6 +470,65 @@ fn is_beyond(u: &Unit, e: CExprId, ty: CTy) -> bool
     }
 }
 
+/// Whether a mask decides whether what it leaves is another number: an and clears a bit of that, or an or sets another one.
+fn masks(op: COp, mask: u64, other: u64) -> bool
+    ensures { result ≡ masks_number op mask other }
+{
+    match op {
+        COp::BitAnd => mask & other != other,
+        COp::BitOr => mask & other != mask,
+        _ => false,
+    }
+}
+
+/// Whether an operand is a mask that decides it.
+fn is_mask(u: &Unit, op: COp, e: CExprId, other: u64) -> bool
+    requires { e.0 < length u.now.exprs }
+    ensures { result ≡ is_mask_tree op (expr_of u.now e.0) other }
+{
+    match u.expr(e) {
+        CExpr::Number(n) => masks(op, literal_value(*n), other),
+        _ => false,
+    }
+}
+
+/// Whether an expression has a mask that decides whether it is a number.
+fn is_masked(u: &Unit, e: CExprId, other: u64) -> bool
+    requires { e.0 < length u.now.exprs }
+    ensures { result ≡ is_masked_tree (expr_of u.now e.0) other }
+{
+    match u.expr(e) {
+        CExpr::Operation {
+            op,
+            first,
+            second,
+            ..
+        } => is_mask(u, *op, *first, other) || is_mask(u, *op, *second, other),
+        _ => false,
+    }
+}
+
+/// Whether a mask decides a comparison with a constant.
+fn mask_decides(u: &Unit, a: CExprId, b: CExprId) -> bool
+    requires left { a.0 < length u.now.exprs }
+    requires right { b.0 < length u.now.exprs }
+    ensures { result ≡ mask_decides_tree (expr_of u.now a.0) (expr_of u.now b.0) }
+{
+    match u.expr(b) {
+        CExpr::Number(n) => is_masked(u, a, literal_value(*n)),
+        _ => false,
+    }
+}
+
+/// Whether compilers may remark on a comparison that what it compares decides it.
+fn is_decided(u: &Unit, a: Rated, b: Rated) -> bool
+    requires left { a.code.0 < length u.now.exprs }
+    requires right { b.code.0 < length u.now.exprs }
+    ensures { result ≡ is_decided_by (rated_in u.now a) (rated_in u.now b) }
+{
+    is_beyond(u, b.code, a.ty) || mask_decides(u, a.code, b.code)
+}
+
 /// A number with 0 added to it.
 fn plus_zero(alloc: Global, u: &mut Unit, e: CExprId, ty: CTy) -> Result<Rated, NoMemory>
     requires { e.0 < length u.old.exprs }
@@ -502,15 +561,15 @@ fn plus_zero_in(alloc: Global, u: &mut Unit, a: Rated, ty: CTy) -> Result<Rated,
     }
 }
 
-/// An operand of a comparison, with the other one. Beside a constant that the operand's type may not have 0 is added to it, since
-/// compilers remark that the type decides.
+/// An operand of a comparison, with the other one. Beside a constant that it may not be 0 is added to it, since compilers remark that
+/// its type or its mask decides.
 pub fn compared_with(alloc: Global, u: &mut Unit, a: Rated, b: Rated) -> Result<Rated, NoMemory>
     requires operand { a.code.0 < length u.old.exprs }
     requires other { b.code.0 < length u.old.exprs }
     ensures grows { Grows u.old u.new }
     ensures made { IfOk result (λ r. HasRated u.new r (compared_with_code (rated_in u.old a) (rated_in u.old b))) }
 {
-    if is_beyond(u, b.code, a.ty) {
+    if is_decided(u, a, b) {
         plus_zero_in(alloc, u, a, b.ty)
     } else {
         beside(u, a, b.ty)

@@ -24,7 +24,7 @@ use Rattle.c_meaning.specs.declared.values.CValue.TheVariants.{NullPointer as nu
 use Rattle.c_meaning.specs.CExprs.{Surroundings}
 use Rattle.wf_exprs.specs.Names.{Names, names_of}
 use Rattle.wf_exprs.specs.Words.{num, uint_of, two}
-use Rattle.wf_exprs.specs.Exprs.{calculated, rank, Rated, rated, is_held, converted, widened, beside, is_beyond, plus_zero, plus_zero_in, compared_with, bare, apart, with_zero, xor_operand, is_ones, is_short_ones, is_converted, pair_compared, comparand, is_array, asked_code, lowered, given, lowered_slice, lowered_end}
+use Rattle.wf_exprs.specs.Exprs.{calculated, rank, Rated, rated, is_held, converted, widened, beside, is_decided, plus_zero, plus_zero_in, compared_with, bare, apart, with_zero, xor_operand, is_ones, is_short_ones, is_converted, pair_compared, comparand, is_array, asked_code, lowered, given, lowered_slice, lowered_end}
 use Rattle.c_text.specs.declared.kinds.COp.TheVariants.{Add}
 use Rattle.c_text.specs.CTree.{ExprTree, cast}
 use Rattle.wf_exprs_laws.specs.ExprLaw.{DeclaresOperator, DeclaresQuestion, Declares, DeclaresSlice, DeclaresEnd, GivesPointer, SpanStands, Stands}
@@ -148,7 +148,7 @@ plus_zero_in-number x a ty n h = by (nat_lt (rank a.ty) (rank ty)) refl
     by false e = plus_zero-number x a.code a.ty n h
 
 pub compared_with-number : (x : Surroundings) (a b : Rated) (n : ℕ) → IsNumber x a.code a.ty n → IsNumber x (compared_with a b).code (compared_with a b).ty n
-compared_with-number x a b n h = by (is_beyond b.code a.ty)
+compared_with-number x a b n h = by (is_decided a b)
   where
     by : (test : Bool) → IsNumber x (if test then plus_zero_in a b.ty else beside a b.ty).code (if test then plus_zero_in a b.ty else beside a b.ty).ty n
     by true = plus_zero_in-number x a b.ty n h

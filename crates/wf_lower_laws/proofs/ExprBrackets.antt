@@ -25,7 +25,7 @@ use Rattle.c_text.specs.CTree as c
 use Rattle.wf_exprs.specs.Names.{Names}
 use Rattle.wf_exprs.specs.Words.{num, uint_of, two}
 use Rattle.wf_ast.specs.Value.{same_truth}
-use Rattle.wf_exprs.specs.Exprs.{calculated, rank, Rated, rated, recast, firm, balanced, op_of, with_operand, same_op, chained, saturated, cut_off, taken, is_filled, factor, linked, converted, widened, path_code, Pair, path_pair, is_array, moved, part_pointer, part_length, place_code, bytes_code, peeked, raised, peek_code, asked_code, lowered, lowered_slice, lowered_end, bare, is_ones, is_short_ones, is_converted, apart, with_zero, xor_operand, pair_compared, comparand, beside, is_beyond, plus_zero, plus_zero_in, compared_with, settled, settled_or, given, status_constant, lowered_status, same_code, is_literal, is_held, compared, is_constant, constant_number, constants_compared, held_compared, statuses_compared, begins_with, category_code, lowered_cond}
+use Rattle.wf_exprs.specs.Exprs.{calculated, rank, Rated, rated, recast, firm, balanced, op_of, with_operand, same_op, chained, saturated, cut_off, taken, is_filled, factor, linked, converted, widened, path_code, Pair, path_pair, is_array, moved, part_pointer, part_length, place_code, bytes_code, peeked, raised, peek_code, asked_code, lowered, lowered_slice, lowered_end, bare, is_ones, is_short_ones, is_converted, apart, with_zero, xor_operand, pair_compared, comparand, beside, is_decided, plus_zero, plus_zero_in, compared_with, settled, settled_or, given, status_constant, lowered_status, same_code, is_literal, is_held, compared, is_constant, constant_number, constants_compared, held_compared, statuses_compared, begins_with, category_code, lowered_cond}
 use Rattle.wf_lower_laws.specs.BracketLaw.{repeats, goes_on, cond_goes_on, num_within, slice_within, end_within, cond_within}
 use Rattle.wf_lower_laws.proofs.Apart.{same_number}
 use Rattle.wf_lower_laws.proofs.OpenBrackets.{ExprOpens, OperandsOpen}
@@ -538,7 +538,7 @@ module _ (names : Names) where
   by_compared_with : (d k : ℕ) (a b : Rated) → 1 ≤ d → d + 2 ≤ k → ExprBy d a.code → ExprBy k (compared_with a b).code
   by_compared_with d k a b m l h =
       let it : ExprTree = cast (uint_of (c_width b.ty)) a.code in
-      by_rated_if k (is_beyond b.code a.ty) (plus_zero_in a b.ty) (beside a b.ty)
+      by_rated_if k (is_decided a b) (plus_zero_in a b.ty) (beside a b.ty)
       (by_rated_if k (nat_lt (rank a.ty) (rank b.ty)) (plus_zero it (calculated (c_width b.ty))) (plus_zero a.code a.ty)
       (by_plus_zero (d + 1) k it (calculated (c_width b.ty)) (omega (arith, l)) (by_cast d (d + 1) (uint_of (c_width b.ty)) a.code (omega arith) (omega (arith, m)) h))
       (by_plus_zero d k a.code a.ty (omega (arith, l)) h))
