@@ -22,6 +22,7 @@ ghost use Rattle.wf_lower.specs.Made.{HasArgTrees, HasFunctionTree, HasParamTree
 ghost use Rattle.wf_lower.specs.Unit.{initialize_code as initialize_code_of, initialize_function as initialize_function_of, initialize_part as initialize_part_of, initialize_parts as initialize_parts_of};
 
 use crate::declaring::self_param;
+use crate::shared::BAD_RECEIVER;
 use c_text::{CArg, CCall, CExprId, CItem, CList, CParam, CStmtId, CType, Linkage, Unit};
 use std::alloc::Global;
 use wf_ast::{StructId, Ty, Typed, Var};
@@ -31,8 +32,6 @@ use wf_exprs_nodes::statuses::status_constant;
 use wf_lower_stmts::code::{assign, call, finish, leave, when};
 use wf_lower_stmts::spelling::initialize_name;
 use wf_text::NoMemory;
-
-const BAD_RECEIVER: u32 = 4;
 
 /// The address of a field of the receiver.
 fn part_address(u: &mut Unit, field: &[u8]) -> Result<CExprId, NoMemory>

@@ -23,7 +23,8 @@ use wf_exprs_nodes::statuses::status_constant;
 use wf_lower_stmts::code::{assign, finish, leave, when};
 use wf_text::NoMemory;
 
-const BAD_RECEIVER: u32 = 4;
+/// The number of the base status for a null receiver.
+pub(crate) const BAD_RECEIVER: u32 = 4;
 
 const BAD_ARGUMENT: u32 = 5;
 
