@@ -1,3 +1,4 @@
+pub mod AlikeLaws
 pub mod Growing
 pub mod Prefixes
 pub mod RatedLaws

@@ -11,6 +11,7 @@ use Rattle.wf_base.specs.declared.base_methods.PeekForm.{PeekForm}
 use Rattle.wf_base.specs.declared.base_methods.PeekForm.TheVariants.{PeekU8, PeekU16Le, PeekU32Le}
 use Rattle.wf_ast.specs.TypedTree.{Path, local, field, arg, Arith, plus, minus, times, divided, remainder, shift_left, shift_right, bits_and, bits_or, bits_xor, mod_plus, mod_minus, mod_times, mod_shift_left, sat_plus, sat_minus, Order, less, at_most, equal, differs, at_least, greater, Question, reader_length, reader_position, peek, writer_length, writer_position, NumTree, number, read, element, link, convert, length_of, asked, SliceTree, slice, array, cut, EndTree, absent, present, StatusTree, status, held, no_status, CondTree, truth, flag, compare, same_status, junction, negation, closed, has_category}
 use Rattle.wf_ast.specs.Value.{same_truth}
+use Rattle.wf_ast.specs.Same.{same_state}
 use Rattle.c_text.specs.declared.kinds.CNumber.{CNumber}
 use Rattle.c_text.specs.declared.kinds.CNumber.TheVariants as literals
 use Rattle.c_text.specs.declared.kinds.COp.{COp}
@@ -415,6 +416,29 @@ plus_zero_in a ty =
 abbrev pub compared_with : (a b : Rated) → Rated
 compared_with a b = if is_decided a b then plus_zero_in a b.ty else beside a b.ty
 
+-- They say so of what is compared with itself, too: gcc of any two expressions that are alike node by node. No compiler takes two calls
+-- for one.
+abbrev mutual
+  pub alike : (e other : ExprTree) → Bool
+  alike (c.number n) (c.number k) = nat_eq (literal_value n) (literal_value k)
+  alike (variable name) (variable name') = bytes_eq name name'
+  alike (member e name) (member e' name') = bytes_eq name name' && alike e e'
+  alike (c.element e at) (c.element e' at') = alike e e' && alike at at'
+  alike (operation op a b others) (operation op' a' b' others') =
+      same_op op op' && (alike a a' && (alike b b' && all_alike others others'))
+  alike (cast to e) (cast to' e') = alike e e'
+  alike (choice test met unmet) (choice test' met' unmet') = alike met met'
+  alike e other = false
+
+  pub all_alike : (es others : Operands) → Bool
+  all_alike no_operand no_operand = true
+  all_alike (operand e es) (operand e' es') = alike e e' && all_alike es es'
+  all_alike es others = false
+
+-- The left operand: 0 is added to it where it is compared with itself.
+abbrev pub left_compared : (a b : Rated) → Rated
+left_compared a b = if alike a.code b.code then plus_zero_in a b.ty else compared_with a b
+
 -- No number is below 0. A comparison that asks for that is 1 or 0 itself.
 abbrev pub is_literal_zero : ExprTree → Bool
 is_literal_zero (c.number (literals.Int n)) = nat_eq n 0
@@ -436,7 +460,7 @@ settled_or (Some met) e = num (if met then 1 else 0)
 settled_or None e = e
 
 abbrev pub numbers_compared : Order → Rated → Rated → ExprTree
-numbers_compared op a b = settled_or (settled op a.code b.code) (compared op (compared_with a b).code (compared_with b a).code)
+numbers_compared op a b = settled_or (settled op a.code b.code) (compared op (left_compared a b).code (compared_with b a).code)
 
 abbrev pub is_constant : StatusTree → Bool
 is_constant (status at n) = true
@@ -455,9 +479,13 @@ held_compared true names a b =
     if is_constant a then two Eq (lowered_status names a) (lowered_status names b) else same_code (lowered_status names a) (lowered_status names b) (is_constant b)
 held_compared false names a b = two Ne (lowered_status names a) (lowered_status names b)
 
+-- A variable is one with itself.
+abbrev pub variables_compared : (one : Bool) → Names → StatusTree → StatusTree → ExprTree
+variables_compared one names a b = if same_state a b then num (if one then 1 else 0) else held_compared one names a b
+
 abbrev pub statuses_compared : (one : Bool) → Names → StatusTree → StatusTree → ExprTree
 statuses_compared one names a b =
-    if is_constant a && is_constant b then constants_compared one (constant_number a) (constant_number b) else held_compared one names a b
+    if is_constant a && is_constant b then constants_compared one (constant_number a) (constant_number b) else variables_compared one names a b
 
 -- A status is ok, or its text begins with a byte. The constant ok has no text.
 abbrev pub begins_with : ℕ → ExprTree → ExprTree

@@ -7,11 +7,12 @@ ghost use Rattle.wf_ast.specs.TypedTrees.{operator_kind};
 ghost use Rattle.c_text.specs.CNodes.{expr_of};
 ghost use Rattle.c_text.specs.CSpelling.{IsLiteral};
 ghost use Rattle.wf_num.specs.CArithmetic.{c_width};
-ghost use Rattle.wf_exprs.specs.Exprs.{balanced as balanced_code, beside as beside_code, calculated as calculated_of, compared_with as compared_with_code, converted as converted_code, cut_off as cut_off_code, factor as factor_code, fills as fills_tree, firm as firm_code, greatest_of as greatest_in, is_beyond as is_beyond_tree, is_decided as is_decided_by, is_filled as is_filled_tree, is_full as is_full_tree, is_mask as is_mask_tree, is_masked as is_masked_tree, is_or as is_or_op, literal_type as type_of_literal, literal_value as value_of_literal, mask_decides as mask_decides_tree, masks as masks_number, plus_zero as plus_zero_code, plus_zero_in as plus_zero_in_code, rank as rank_of, recast as recast_code, saturated as saturated_code, saturating_name as name_of_saturating, suffixed as suffixed_literal, taken as taken_code, widened as widened_code, wider as wider_of};
+ghost use Rattle.wf_exprs.specs.Exprs.{balanced as balanced_code, beside as beside_code, calculated as calculated_of, compared_with as compared_with_code, converted as converted_code, cut_off as cut_off_code, factor as factor_code, fills as fills_tree, firm as firm_code, greatest_of as greatest_in, is_beyond as is_beyond_tree, is_decided as is_decided_by, is_filled as is_filled_tree, is_full as is_full_tree, is_mask as is_mask_tree, is_masked as is_masked_tree, is_or as is_or_op, left_compared as left_compared_code, literal_type as type_of_literal, literal_value as value_of_literal, mask_decides as mask_decides_tree, masks as masks_number, plus_zero as plus_zero_code, plus_zero_in as plus_zero_in_code, rank as rank_of, recast as recast_code, saturated as saturated_code, saturating_name as name_of_saturating, suffixed as suffixed_literal, taken as taken_code, widened as widened_code, wider as wider_of};
 ghost use Rattle.wf_exprs.specs.Grown.{Grows, HasExpr, HasNamed};
 ghost use Rattle.wf_exprs.specs.Making.{HasRated, c_op, linked_by, rated_in, small_number};
 ghost use Rattle.wf_exprs.specs.Words.{two as two_trees};
 
+use crate::alike::are_alike;
 use crate::names::put_numbered;
 use crate::nodes::{called, cast, is_held, is_literal, literal, number, put, two};
 use c_text::{CExpr, CExprId, CNameId, CNumber, COp, Unit};
@@ -438,7 +439,7 @@ fn beside(u: &mut Unit, a: Rated, ty: CTy) -> Result<Rated, NoMemory>
 }
 
 /// The number that a literal is.
-fn literal_value(number: CNumber) -> u64
+pub(crate) fn literal_value(number: CNumber) -> u64
     ensures { result ≡ value_of_literal number }
 {
     match number {
@@ -573,5 +574,19 @@ pub fn compared_with(alloc: Global, u: &mut Unit, a: Rated, b: Rated) -> Result<
         plus_zero_in(alloc, u, a, b.ty)
     } else {
         beside(u, a, b.ty)
+    }
+}
+
+/// The left operand of a comparison, with the other one. Where it is compared with itself 0 is added to it.
+pub fn left_compared(alloc: Global, u: &mut Unit, a: Rated, b: Rated) -> Result<Rated, NoMemory>
+    requires operand { a.code.0 < length u.old.exprs }
+    requires other { b.code.0 < length u.old.exprs }
+    ensures grows { Grows u.old u.new }
+    ensures made { IfOk result (λ r. HasRated u.new r (left_compared_code (rated_in u.old a) (rated_in u.old b))) }
+{
+    if are_alike(u, a.code, b.code) {
+        plus_zero_in(alloc, u, a, b.ty)
+    } else {
+        compared_with(alloc, u, a, b)
     }
 }

@@ -12,6 +12,8 @@ use Rattle.wf_num.proofs.CLaws.{c_limit}
 use Rattle.wf_ast.specs.declared.types.Ty.TheVariants as types
 use Rattle.wf_ast.specs.TypedTree.{local, field, arg, Order, less, at_most, equal, differs, at_least, greater, NumTree, StatusTree, status, held, no_status, CondTree, truth, flag, compare, same_status, junction, negation, closed, has_category}
 use Rattle.wf_ast.specs.TypedPackage.{MethodTree, PackageTree}
+use Rattle.wf_ast.specs.Same.{same_state}
+use Rattle.wf_ast.proofs.SameValue.{path_same}
 use Rattle.wf_ast.specs.Value.{State, value, io_buffer, compares, same_truth, same_category, status_value, truth_of}
 use Rattle.wf_ast.specs.WellTyped.{variable_at, is_whole_number, width_of, fit_together, well_num, well_status, well_cond}
 use Rattle.c_text.specs.declared.kinds.COp.TheVariants.{Eq, Ne, Both, Either}
@@ -29,12 +31,12 @@ use Rattle.c_meaning.specs.CExprs.{Surroundings, held_value, combined, truth_val
 use Rattle.c_meaning.specs.CExprs as c
 use Rattle.wf_exprs.specs.Names.{names_of, status_name}
 use Rattle.wf_exprs.specs.Words.{literal, num, two}
-use Rattle.wf_exprs.specs.Exprs.{literal_type, path_code, is_held, is_literal, is_constant, constant_number, constants_compared, held_compared, order_op, Rated, compared, compared_with, is_literal_zero, known_if, settled, settled_or, numbers_compared, chained, comparand, status_constant, lowered_status, statuses_compared, begins_with, category_code, lowered_cond}
+use Rattle.wf_exprs.specs.Exprs.{literal_type, path_code, is_held, is_literal, is_constant, constant_number, constants_compared, held_compared, order_op, Rated, compared, compared_with, left_compared, is_literal_zero, known_if, settled, settled_or, numbers_compared, chained, comparand, status_constant, lowered_status, variables_compared, statuses_compared, begins_with, category_code, lowered_cond}
 use Rattle.wf_exprs_laws.specs.ExprLaw.{Declares, HasConstant, DeclaresStatus, DeclaresCond, IsNull, IsStatusValue, GivesNumber, GivesStatus, cell_behind, Stands}
 use Rattle.wf_exprs_laws.proofs.CNumbers.{comparison-whole}
 use Rattle.wf_exprs_laws.proofs.Operands.{IsNumber, literal-number, zero-number, chained-value}
 use Rattle.wf_exprs_laws.proofs.Buffers.{buffer-some, reader-type}
-use Rattle.wf_exprs_laws.proofs.Trees.{came, mapped, comparand-number, compared_with-number}
+use Rattle.wf_exprs_laws.proofs.Trees.{came, mapped, comparand-number, compared_with-number, left_compared-number}
 
 -- An expression of C holds or doesn't, as a truth value says.
 pub record CondGives (x : Surroundings) (e : ExprTree) (b : Bool) : Type 0 where
@@ -137,8 +139,8 @@ settled-cond x None e t h g = g
 
 numbers-cond : (x : Surroundings) (op : Order) (a b : Rated) (m n : ℕ) → IsNumber x a.code a.ty m → IsNumber x b.code b.ty n → CondGives x (numbers_compared op a b) (compares op m n)
 numbers-cond x op a b m n h g =
-    settled-cond x (settled op a.code b.code) (compared op (compared_with a b).code (compared_with b a).code) (compares op m n) (settled-value x op a.code b.code a.ty b.ty m n h g)
-    (compared-cond x op (compared_with a b).code (compared_with b a).code (compared_with a b).ty (compared_with b a).ty m n (compared_with-number x a b m h) (compared_with-number x b a n g))
+    settled-cond x (settled op a.code b.code) (compared op (left_compared a b).code (compared_with b a).code) (compares op m n) (settled-value x op a.code b.code a.ty b.ty m n h g)
+    (compared-cond x op (left_compared a b).code (compared_with b a).code (left_compared a b).ty (compared_with b a).ty m n (left_compared-number x a b m h) (compared_with-number x b a n g))
 
 -- ---- `and` and `or`
 
@@ -395,18 +397,42 @@ module _ (p : PackageTree) (m : MethodTree) (s : State) (x : Surroundings) (st :
   constant-is (held at path) n c e = absurd (cc c)
   constant-is no_status n c e = absurd (cc c)
 
+  same-status : (a b : StatusTree) (n k : ℕ) → same_state a b ≡ true → status_value s a ≡ Some n → status_value s b ≡ Some k → nat_eq n k ≡ true
+  same-status (status at i) (status at' j) n k h e f =
+      let same : i ≡ n = cc e in
+      let other : j ≡ k = cc f in
+      grind (arith, nat_tests, h, same, other)
+  same-status (held at q) (held at' r) n k h e f =
+      let held_both : Some n ≡ Some k = sym e ∙ (ap s.status_at (path_same q r h) ∙ f) in
+      let same : n ≡ k = cc held_both in
+      grind (arith, nat_tests, same)
+  same-status a b n k h e f = absurd (cc h)
+
+  one-itself : (one : Bool) (n k : ℕ) → nat_eq n k ≡ true → one ≡ same_truth one (nat_eq n k)
+  one-itself true n k h = sym h
+  one-itself false n k h = sym (ap not h)
+
+  -- A variable is one with itself.
+  variables-cond : (alike : Bool) (a b : StatusTree) (n k : ℕ) → status_value s a ≡ Some n → status_value s b ≡ Some k → IsStatus n → IsStatus k
+      → GivesStatus x (lowered_status (names_of p m) a) n → GivesStatus x (lowered_status (names_of p m) b) k → CondGives x (variables_compared alike (names_of p m) a b) (same_truth alike (nat_eq n k))
+  variables-cond alike a b n k e f n_is k_is g h = by (same_state a b) refl
+    where
+      by : (t : Bool) → same_state a b ≡ t → CondGives x (if t then num (if alike then 1 else 0) else held_compared alike (names_of p m) a b) (same_truth alike (nat_eq n k))
+      by true v = subst (λ t. CondGives x (num (if alike then 1 else 0)) t) (one-itself alike n k (same-status a b n k v e f)) (truth-literal alike)
+      by false v = held-cond alike a b n k n_is k_is g h
+
   statuses-cond : (alike : Bool) (a b : StatusTree) (n k : ℕ) → status_value s a ≡ Some n → status_value s b ≡ Some k → IsStatus n → IsStatus k
       → GivesStatus x (lowered_status (names_of p m) a) n → GivesStatus x (lowered_status (names_of p m) b) k → CondGives x (statuses_compared alike (names_of p m) a b) (same_truth alike (nat_eq n k))
   statuses-cond alike a b n k e f n_is k_is g h = by (is_constant a) (is_constant b) refl refl
     where
       by : (t u : Bool) → is_constant a ≡ t → is_constant b ≡ u
-          → CondGives x (if t && u then constants_compared alike (constant_number a) (constant_number b) else held_compared alike (names_of p m) a b) (same_truth alike (nat_eq n k))
+          → CondGives x (if t && u then constants_compared alike (constant_number a) (constant_number b) else variables_compared alike (names_of p m) a b) (same_truth alike (nat_eq n k))
       by true true v w =
           subst (λ t. CondGives x (constants_compared alike (constant_number a) (constant_number b)) t)
           (ap (λ j. same_truth alike (nat_eq j (constant_number b))) (constant-is a n v e) ∙ ap (λ j. same_truth alike (nat_eq n j)) (constant-is b k w f))
           (truth-literal (same_truth alike (nat_eq (constant_number a) (constant_number b))))
-      by true false v w = held-cond alike a b n k n_is k_is g h
-      by false u v w = held-cond alike a b n k n_is k_is g h
+      by true false v w = variables-cond alike a b n k e f n_is k_is g h
+      by false u v w = variables-cond alike a b n k e f n_is k_is g h
 
   -- ok
   fine-cond : (e : ExprTree) (n : ℕ) → IsStatus n → GivesStatus x e n → CondGives x (two Eq (num 0) e) (same_category Fine (category_of (s.status_text n)))

@@ -4,11 +4,13 @@ use Rattle.wf_text.specs.declared.place.Place.{Place}
 use Rattle.wf_text.specs.declared.faults.NoMemory.{NoMemory}
 use Rattle.wf_ast.specs.declared.numbers.ExprId.{ExprId}
 use Rattle.wf_ast.specs.declared.types.Ty.{Ty}
+use Rattle.wf_ast.specs.declared.types.Ty.TheVariants as types
 use Rattle.wf_ast.specs.declared.typed_nodes.TypedNodes.{TypedNodes}
-use Rattle.wf_ast.specs.TypedTree.{Order, CondTree, junction, ValueTree}
+use Rattle.wf_ast.specs.TypedTree.{Order, CondTree, junction, ValueTree, state}
 use Rattle.wf_ast.specs.TypedTrees.{OperatorKind, arithmetic, ordering, joining, num_in, cond_in, status_in, cond_chain, chain_of, comparison, first_sign, tree_of, type_of_node}
-use Rattle.wf_ast.specs.TypedInvariant.{is_state, chain_fits, compares_kinds, is_tree_of}
-use Rattle.wf_ast.specs.NodeKinds.{node_cond}
+use Rattle.wf_ast.specs.TypedInvariant.{is_expr, is_state, chain_fits, compares_kinds, is_tree_of}
+use Rattle.wf_ast.specs.NodeKinds.{is_status_at, node_cond, node_status}
+use Rattle.wf_ast.proofs.Arena.{both_true}
 use Rattle.wf_ast.specs.OperatorForms.{is_joining, is_ordering, is_equal, order_in}
 use Rattle.wf_ast.proofs.ChainKinds.{operand_kinds, compares_numbers, compares_statuses}
 use Rattle.c_text.specs.CTree.{ExprTree, operation, Operands, no_operand}
@@ -111,3 +113,12 @@ pub compared_kinds : (nodes : TypedNodes) (ty : Ty) (sort : OperatorKind) (es : 
 compared_kinds nodes ty (ordering op) es d o f = operand_kinds nodes ty op es d f
 compared_kinds nodes ty (joining both) es d o f = absurd (cc o)
 compared_kinds nodes ty (arithmetic op) es d o f = absurd (cc o)
+
+-- The tree of a status, by its kind.
+pub state_tree : (nodes : TypedNodes) (e : ExprId) → is_tree_of (type_of_node nodes e.0) (tree_of nodes e) ≡ true → is_status_at nodes e ≡ true → tree_of nodes e ≡ state (node_status nodes e)
+state_tree nodes e kind h = by (type_of_node nodes e.0) (tree_of nodes e) kind (both_true (is_expr nodes e) (is_state (type_of_node nodes e.0)) h).1
+  where
+    by : (ty : Ty) (t : ValueTree) → is_tree_of ty t ≡ true → is_state ty ≡ true → t ≡ state (status_in t)
+    by types.Status (state t) h k = refl
+    by types.Status t h k = absurd (cc h)
+    by ty t h k = absurd (cc k)

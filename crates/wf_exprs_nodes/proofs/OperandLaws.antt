@@ -41,11 +41,6 @@ pub same_kept : (a b : Nodes) (es : List CExprId) → Grows a b → HasExprs (le
 same_kept a b [] g h = refl
 same_kept a b (e ∷ es) g h = ap (λ x. operand x (operands_in (expr_of b) es)) (g.exprs e.0 h.0) ∙ ap (operand (expr_of a e.0)) (same_kept a b es g h.1)
 
-pub each_below : (below : ℕ) (es : List CExprId) (i : ℕ) (d : CExprId) → HasExprs below es → i < length es → (get_or es i d).0 < below
-each_below below [] i d h l = absurd (omega (arith, l))
-each_below below (e ∷ es) zero d h l = h.0
-each_below below (e ∷ es) (suc i) d h l = each_below below es i d h.1 (omega (arith, l))
-
 pub each_arg : (nodes : Nodes) (below : ℕ) (args : List CArg) (i : ℕ) (d : CArg) → HasArgs nodes below args → i < length args → HasArg nodes below (get_or args i d)
 each_arg nodes below [] i d h l = absurd (omega (arith, l))
 each_arg nodes below (a ∷ args) zero d h l = h.0

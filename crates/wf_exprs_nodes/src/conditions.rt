@@ -7,12 +7,13 @@ ghost use Rattle.wf_ast.specs.TypedTree.{closed, negation};
 ghost use Rattle.wf_ast.specs.TypedTrees.{answer_of, chain_of, named, place_of_node, signs_of_node, operator_kind, tree_of, type_of_node};
 ghost use Rattle.wf_ast.specs.TypedInvariant.{chain_fits, compares_kinds, has_kind, is_expr, is_state, is_tree_of};
 ghost use Rattle.wf_ast.specs.NodeKinds.{is_condition_at, is_number_at, is_status_at, node_cond, node_number, node_status};
+ghost use Rattle.wf_ast.specs.Same.{same_state};
 ghost use Rattle.wf_ast.specs.OperatorForms.{is_equal, is_joining, is_ordering, order_in};
 ghost use Rattle.c_text.specs.CNodes.{expr_of};
 ghost use Rattle.c_text.specs.CTree as c;
 ghost use Rattle.c_text.specs.declared.kinds.COp.TheVariants.{Ne};
 ghost use Rattle.c_text.specs.declared.kinds.CUnary.TheVariants.{Not};
-ghost use Rattle.wf_exprs.specs.Exprs.{category_code, comparand as comparand_of, compared as compared_code, compared_with as compared_with_code, constants_compared as constants_compared_code, held_compared as held_compared_code, is_literal_zero as is_literal_zero_tree, known_if as known_if_code, lowered_cond, lowered_status, numbers_compared as numbers_compared_code, same_code, settled as settled_code, statuses_compared as statuses_compared_code};
+ghost use Rattle.wf_exprs.specs.Exprs.{category_code, comparand as comparand_of, compared as compared_code, compared_with as compared_with_code, constants_compared as constants_compared_code, held_compared as held_compared_code, is_literal_zero as is_literal_zero_tree, known_if as known_if_code, left_compared as left_compared_code, lowered_cond, lowered_status, numbers_compared as numbers_compared_code, same_code, settled as settled_code, statuses_compared as statuses_compared_code, variables_compared as variables_compared_code};
 ghost use Rattle.wf_exprs.specs.Grown.{Grows, HasExpr};
 ghost use Rattle.wf_exprs.specs.Making.{rated_in};
 ghost use Rattle.wf_exprs.specs.Scopes.{path_of};
@@ -24,10 +25,10 @@ use crate::comparands::comparand;
 use crate::statuses::{constant_number, is_constant, is_of_category, status};
 use c_text::{CExpr, CExprId, CList, CNumber, COp, Unit};
 use std::alloc::Global;
-use wf_ast::{Expr, ExprId, Op, Ty, Typed, io_arg};
+use wf_ast::{Expr, ExprId, Op, Ty, Typed, io_arg, same as are_same};
 use wf_base::BaseSig;
 use wf_exprs::nodes::{is_held, is_literal, negated, two};
-use wf_exprs::rated::{compared_with, op_of};
+use wf_exprs::rated::{compared_with, left_compared, op_of};
 use wf_exprs::{BodyNames, Path, Rated};
 use wf_text::{Category, NoMemory};
 
@@ -243,9 +244,9 @@ fn operands_compared(
     requires left { a.code.0 < length u.old.exprs }
     requires right { b.code.0 < length u.old.exprs }
     ensures grows { Grows u.old u.new }
-    ensures made { IfOk result (λ it. HasExpr u.new it.0 (compared_code (order_in (operator_kind op)) (compared_with_code (rated_in u.old a) (rated_in u.old b)).code (compared_with_code (rated_in u.old b) (rated_in u.old a)).code)) }
+    ensures made { IfOk result (λ it. HasExpr u.new it.0 (compared_code (order_in (operator_kind op)) (left_compared_code (rated_in u.old a) (rated_in u.old b)).code (compared_with_code (rated_in u.old b) (rated_in u.old a)).code)) }
 {
-    let left = compared_with(alloc, u, a, b)?;
+    let left = left_compared(alloc, u, a, b)?;
     let right = compared_with(alloc, u, b, a)?;
     compared(alloc, u, op, left.code, right.code)
 }
@@ -370,8 +371,47 @@ fn statuses_compared(
     if is_constant(t, a) && is_constant(t, b) {
         constants_compared(u, op, constant_number(t, a), constant_number(t, b))
     } else {
+        variables_compared(scope, u, op, a, b)
+    }
+}
+
+// Two statuses of which one at least is no constant. A variable is one with itself.
+fn variables_compared(
+    scope: &BodyNames,
+    u: &mut Unit,
+    op: Op,
+    a: ExprId,
+    b: ExprId,
+) -> Result<CExprId, NoMemory>
+    requires ordering { IsTrue (is_ordering (operator_kind op)) }
+    requires left { IsTrue (is_status_at scope.now.nodes a) }
+    requires right { IsTrue (is_status_at scope.now.nodes b) }
+    ensures grows { Grows u.old u.new }
+    ensures made { IfOk result (λ it. HasExpr u.new it.0 (variables_compared_code (is_equal (order_in (operator_kind op))) scope.now.names (node_status scope.now.nodes a) (node_status scope.now.nodes b))) }
+{
+    if same_status(scope.typed(), a, b) {
+        truth(u, asks_same(op))
+    } else {
         held_compared(scope, u, op, a, b)
     }
+}
+
+fn same_status(t: &Typed, a: ExprId, b: ExprId) -> bool
+    requires left { IsTrue (is_status_at t.now a) }
+    requires right { IsTrue (is_status_at t.now b) }
+    ensures { result ≡ same_state (node_status t.now a) (node_status t.now b) }
+{
+    look_at(t, a);
+    look_at(t, b);
+    are_same(t, a, b)
+}
+
+// The tree of an expression is of the kind of its type.
+fn look_at(t: &Typed, e: ExprId)
+    requires { IsTrue (is_expr t.now e) }
+    ensures { IsTrue (is_tree_of (type_of_node t.now e.0) (tree_of t.now e)) }
+{
+    let _expr = t.expr(e);
 }
 
 // Of two constants it is known whether they are one.
@@ -387,7 +427,7 @@ fn constants_compared(u: &mut Unit, op: Op, n: u32, k: u32) -> Result<CExprId, N
     }
 }
 
-// Two statuses of which one at least is no constant.
+// Two statuses of which one at least is no constant, and that aren't one variable.
 fn held_compared(
     scope: &BodyNames,
     u: &mut Unit,

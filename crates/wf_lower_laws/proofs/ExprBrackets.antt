@@ -12,7 +12,7 @@ use Rattle.wf_base.specs.declared.base_methods.PeekForm.TheVariants.{PeekU8, Pee
 use Rattle.wf_text.specs.declared.categories.Category.{Category}
 use Rattle.wf_text.specs.declared.categories.Category.TheVariants.{Fine, Note, Suspension, Fault}
 use Rattle.wf_ast.specs.TypedTree.{Path, local, field, arg, Arith, plus, minus, times, divided, remainder, shift_left, shift_right, bits_and, bits_or, bits_xor, mod_plus, mod_minus, mod_times, mod_shift_left, sat_plus, sat_minus, Order, less, at_most, equal, differs, at_least, greater, Question, reader_length, reader_position, peek, writer_length, writer_position, NumTree, number, read, element, link, convert, length_of, asked, SliceTree, slice, array, cut, EndTree, absent, present, StatusTree, status, held, no_status, CondTree, truth, flag, compare, same_status, junction, negation, closed, has_category}
-use Rattle.wf_ast.specs.Same.{same_arith}
+use Rattle.wf_ast.specs.Same.{same_arith, same_state}
 use Rattle.wf_ast.proofs.Arena.{both_true}
 use Rattle.c_text.specs.declared.kinds.CNumber.TheVariants as literals
 use Rattle.c_text.specs.declared.kinds.COp.{COp}
@@ -25,7 +25,7 @@ use Rattle.c_text.specs.CTree as c
 use Rattle.wf_exprs.specs.Names.{Names}
 use Rattle.wf_exprs.specs.Words.{num, uint_of, two}
 use Rattle.wf_ast.specs.Value.{same_truth}
-use Rattle.wf_exprs.specs.Exprs.{calculated, rank, Rated, rated, recast, firm, balanced, op_of, with_operand, same_op, chained, saturated, cut_off, taken, is_filled, factor, linked, converted, widened, path_code, Pair, path_pair, is_array, moved, part_pointer, part_length, place_code, bytes_code, peeked, raised, peek_code, asked_code, lowered, lowered_slice, lowered_end, bare, is_ones, is_short_ones, is_converted, apart, with_zero, xor_operand, pair_compared, comparand, beside, is_decided, plus_zero, plus_zero_in, compared_with, settled, settled_or, given, status_constant, lowered_status, same_code, is_literal, is_held, compared, is_constant, constant_number, constants_compared, held_compared, statuses_compared, begins_with, category_code, lowered_cond}
+use Rattle.wf_exprs.specs.Exprs.{calculated, rank, Rated, rated, recast, firm, balanced, op_of, with_operand, same_op, chained, saturated, cut_off, taken, is_filled, factor, linked, converted, widened, path_code, Pair, path_pair, is_array, moved, part_pointer, part_length, place_code, bytes_code, peeked, raised, peek_code, asked_code, lowered, lowered_slice, lowered_end, bare, is_ones, is_short_ones, is_converted, apart, with_zero, xor_operand, pair_compared, comparand, beside, is_decided, plus_zero, plus_zero_in, compared_with, alike, left_compared, settled, settled_or, given, status_constant, lowered_status, same_code, is_literal, is_held, compared, is_constant, constant_number, constants_compared, held_compared, variables_compared, statuses_compared, begins_with, category_code, lowered_cond}
 use Rattle.wf_lower_laws.specs.BracketLaw.{repeats, goes_on, cond_goes_on, num_within, slice_within, end_within, cond_within}
 use Rattle.wf_lower_laws.proofs.Apart.{same_number}
 use Rattle.wf_lower_laws.proofs.OpenBrackets.{ExprOpens, OperandsOpen}
@@ -535,14 +535,19 @@ module _ (names : Names) where
   by_plus_zero : (d k : ℕ) (e : ExprTree) (ty : CTy) → d + 1 ≤ k → ExprBy d e → ExprBy k (plus_zero e ty).code
   by_plus_zero d k e ty l h = by_two d k Add e (num 0) l h (by_num d 0)
 
+  by_plus_zero_in : (d k : ℕ) (a : Rated) (ty : CTy) → 1 ≤ d → d + 2 ≤ k → ExprBy d a.code → ExprBy k (plus_zero_in a ty).code
+  by_plus_zero_in d k a ty m l h =
+      let it : ExprTree = cast (uint_of (c_width ty)) a.code in
+      by_rated_if k (nat_lt (rank a.ty) (rank ty)) (plus_zero it (calculated (c_width ty))) (plus_zero a.code a.ty)
+      (by_plus_zero (d + 1) k it (calculated (c_width ty)) (omega (arith, l)) (by_cast d (d + 1) (uint_of (c_width ty)) a.code (omega arith) (omega (arith, m)) h))
+      (by_plus_zero d k a.code a.ty (omega (arith, l)) h)
+
   by_compared_with : (d k : ℕ) (a b : Rated) → 1 ≤ d → d + 2 ≤ k → ExprBy d a.code → ExprBy k (compared_with a b).code
-  by_compared_with d k a b m l h =
-      let it : ExprTree = cast (uint_of (c_width b.ty)) a.code in
-      by_rated_if k (is_decided a b) (plus_zero_in a b.ty) (beside a b.ty)
-      (by_rated_if k (nat_lt (rank a.ty) (rank b.ty)) (plus_zero it (calculated (c_width b.ty))) (plus_zero a.code a.ty)
-      (by_plus_zero (d + 1) k it (calculated (c_width b.ty)) (omega (arith, l)) (by_cast d (d + 1) (uint_of (c_width b.ty)) a.code (omega arith) (omega (arith, m)) h))
-      (by_plus_zero d k a.code a.ty (omega (arith, l)) h))
-      (by_beside d k a b.ty l h)
+  by_compared_with d k a b m l h = by_rated_if k (is_decided a b) (plus_zero_in a b.ty) (beside a b.ty) (by_plus_zero_in d k a b.ty m l h) (by_beside d k a b.ty l h)
+
+  by_left_compared : (d k : ℕ) (a b : Rated) → 1 ≤ d → d + 2 ≤ k → ExprBy d a.code → ExprBy k (left_compared a b).code
+  by_left_compared d k a b m l h =
+      by_rated_if k (alike a.code b.code) (plus_zero_in a b.ty) (compared_with a b) (by_plus_zero_in d k a b.ty m l h) (by_compared_with d k a b m l h)
 
   by_settled : (k : ℕ) (o : Option Bool) (e : ExprTree) → ExprBy k e → ExprBy k (settled_or o e)
   by_settled k None e h = h
@@ -601,8 +606,9 @@ module _ (names : Names) where
 
   by_statuses : (k : ℕ) (one : Bool) (a b : StatusTree) → 2 ≤ k → ExprBy k (statuses_compared one names a b)
   by_statuses k one a b l =
-      by_if k (is_constant a && is_constant b) (constants_compared one (constant_number a) (constant_number b)) (held_compared one names a b)
-      (by_num k (if same_truth one (nat_eq (constant_number a) (constant_number b)) then 1 else 0)) (by_held k one a b l)
+      by_if k (is_constant a && is_constant b) (constants_compared one (constant_number a) (constant_number b)) (variables_compared one names a b)
+      (by_num k (if same_truth one (nat_eq (constant_number a) (constant_number b)) then 1 else 0))
+      (by_if k (same_state a b) (num (if one then 1 else 0)) (held_compared one names a b) (by_num k (if one then 1 else 0)) (by_held k one a b l))
 
   begins_two : (d k byte : ℕ) (e : ExprTree) → d + 3 ≤ k → ExprBy d e → ExprBy k (two Both e (two Eq (num byte) (c.element e (num 0))))
   begins_two d k byte e l h =
@@ -665,7 +671,7 @@ module _ (names : Names) where
       let l = at_least_one d p.0 in
       by_settled (5 * d + 5) (settled op (comparand names a).code (comparand names b).code) _
       (by_compared (5 * (d - 1) + 8) (5 * d + 5) op _ _ (omega (arith, l))
-      (by_compared_with (5 * (d - 1) + 6) (5 * (d - 1) + 8) (comparand names a) (comparand names b) (omega arith) (omega arith) (comparand_by (d - 1) a q.0))
+      (by_left_compared (5 * (d - 1) + 6) (5 * (d - 1) + 8) (comparand names a) (comparand names b) (omega arith) (omega arith) (comparand_by (d - 1) a q.0))
       (by_compared_with (5 * (d - 1) + 6) (5 * (d - 1) + 8) (comparand names b) (comparand names a) (omega arith) (omega arith) (comparand_by (d - 1) b q.1)))
   cond_by d (same_status at sign a one b) h = by_statuses (5 * d + 5) one a b (omega arith)
   cond_by d (junction at both joined a b) h =

@@ -12,6 +12,7 @@ use Rattle.wf_text.specs.declared.categories.Category.TheVariants.{Fine, Note, S
 use Rattle.wf_ast.specs.TypedTree.{arg, Arith, plus, minus, times, divided, remainder, shift_left, shift_right, bits_and, bits_or, bits_xor, mod_plus, mod_minus, mod_times, mod_shift_left, sat_plus, sat_minus, Order, less, at_most, equal, differs, at_least, greater, Question, reader_length, reader_position, peek, writer_length, writer_position, NumType, NumTree, number, read, element, link, convert, length_of, asked, SliceTree, slice, array, cut, EndTree, absent, present, StatusTree, status, held, no_status, CondTree, truth, flag, compare, same_status, junction, negation, closed, has_category}
 use Rattle.wf_ast.specs.Value.{same_truth}
 use Rattle.wf_ast.specs.WellTyped.{Context, type_at, is_width, is_range, is_number, is_array, may_ask, is_shift, fits, continues, is_whole_number, same_num_type, element_type, is_unrefined, well_num, well_part, well_slice, well_end, well_status, well_cond}
+use Rattle.wf_ast.specs.Same.{same_state}
 use Rattle.wf_ast.proofs.Arena.{both_true}
 use Rattle.c_text.specs.declared.kinds.CNumber.{CNumber}
 use Rattle.c_text.specs.declared.kinds.CNumber.TheVariants as literals
@@ -25,7 +26,7 @@ use Rattle.c_meaning.specs.CValues.{common}
 use Rattle.c_meaning.specs.CTypes.{CScope, promoted, ExprType, numbers, points_to, zero_literal, byte, as_number, arithmetic_type, sum_type, one_type, test_type, operation_type, operations_type, type_of, operand_types, cast_from, literal_type}
 use Rattle.wf_exprs.specs.Names.{Names}
 use Rattle.wf_exprs.specs.Words.{literal, num, uint_of, width_of, two}
-use Rattle.wf_exprs.specs.Exprs.{calculated, rank, Rated, rated, recast, firm, balanced, with_operand, same_op, chained, cut_off, taken, is_filled, factor, linked, converted, widened, is_held, is_array as is_whole, moved, part_pointer, part_length, io_code, place_code, end_code, bytes_code, peeked, raised, peek_code, asked_code, same_code, compared, is_literal, is_constant, constant_number, constants_compared, held_compared, statuses_compared, begins_with, category_code, lowered, lowered_slice, lowered_end, is_ones, is_short_ones, is_converted, apart, with_zero, xor_operand, pair_compared, comparand, beside, is_decided, plus_zero, plus_zero_in, compared_with, settled, settled_or, lowered_status, lowered_cond}
+use Rattle.wf_exprs.specs.Exprs.{calculated, rank, Rated, rated, recast, firm, balanced, with_operand, same_op, chained, cut_off, taken, is_filled, factor, linked, converted, widened, is_held, is_array as is_whole, moved, part_pointer, part_length, io_code, place_code, end_code, bytes_code, peeked, raised, peek_code, asked_code, same_code, compared, is_literal, is_constant, constant_number, constants_compared, held_compared, variables_compared, statuses_compared, begins_with, category_code, lowered, lowered_slice, lowered_end, is_ones, is_short_ones, is_converted, apart, with_zero, xor_operand, pair_compared, comparand, beside, is_decided, plus_zero, plus_zero_in, compared_with, alike, left_compared, settled, settled_or, lowered_status, lowered_cond}
 use Rattle.wf_lower_laws.proofs.Surfaces.{same_width}
 use Rattle.wf_lower_laws.specs.KindLaw.{IsNum, IsPointer, IsText, IsBuffer, Declares, has_op, has_question, num_served, slice_served, end_served, status_served, cond_served, ExpressionsKeepKinds}
 
@@ -413,13 +414,17 @@ module _ (S : CScope) where
     plus_zero_kind : (e : ExprTree) (ty : CTy) → IsNum S e → IsNum S (plus_zero e ty).code
     plus_zero_kind e ty h = two_kind Add e (num 0) h (num_kind 0)
 
+    plus_zero_in_kind : (a : Rated) (ty : CTy) → IsNum S a.code → IsNum S (plus_zero_in a ty).code
+    plus_zero_in_kind a ty h =
+        let it : ExprTree = cast (uint_of (c_width ty)) a.code in
+        rated_if (nat_lt (rank a.ty) (rank ty)) (plus_zero it (calculated (c_width ty))) (plus_zero a.code a.ty)
+        (plus_zero_kind it (calculated (c_width ty)) (cast_kind (c_width ty) a.code h)) (plus_zero_kind a.code a.ty h)
+
     compared_with_kind : (a b : Rated) → IsNum S a.code → IsNum S (compared_with a b).code
-    compared_with_kind a b h =
-        let it : ExprTree = cast (uint_of (c_width b.ty)) a.code in
-        rated_if (is_decided a b) (plus_zero_in a b.ty) (beside a b.ty)
-        (rated_if (nat_lt (rank a.ty) (rank b.ty)) (plus_zero it (calculated (c_width b.ty))) (plus_zero a.code a.ty) (plus_zero_kind it (calculated (c_width b.ty)) (cast_kind (c_width b.ty) a.code h))
-        (plus_zero_kind a.code a.ty h))
-        (beside_kind a b.ty h)
+    compared_with_kind a b h = rated_if (is_decided a b) (plus_zero_in a b.ty) (beside a b.ty) (plus_zero_in_kind a b.ty h) (beside_kind a b.ty h)
+
+    left_compared_kind : (a b : Rated) → IsNum S a.code → IsNum S (left_compared a b).code
+    left_compared_kind a b h = rated_if (alike a.code b.code) (plus_zero_in a b.ty) (compared_with a b) (plus_zero_in_kind a b.ty h) (compared_with_kind a b h)
 
     settled_kind : (o : Option Bool) (e : ExprTree) → IsNum S e → IsNum S (settled_or o e)
     settled_kind None e h = h
@@ -438,8 +443,9 @@ module _ (S : CScope) where
 
     statuses_kind : (one : Bool) (a b : StatusTree) → IsText S (lowered_status names a) → IsText S (lowered_status names b) → IsNum S (statuses_compared one names a b)
     statuses_kind one a b h j =
-        kind_if (is_constant a && is_constant b) (constants_compared one (constant_number a) (constant_number b)) (held_compared one names a b)
-        (num_kind (if same_truth one (nat_eq (constant_number a) (constant_number b)) then 1 else 0)) (held_kind one a b h j)
+        kind_if (is_constant a && is_constant b) (constants_compared one (constant_number a) (constant_number b)) (variables_compared one names a b)
+        (num_kind (if same_truth one (nat_eq (constant_number a) (constant_number b)) then 1 else 0))
+        (kind_if (same_state a b) (num (if one then 1 else 0)) (held_compared one names a b) (num_kind (if one then 1 else 0)) (held_kind one a b h j))
 
     condition_kind : (t : CondTree) → well_cond x t ≡ true → cond_served has knows reads t ≡ true → IsNum S (lowered_cond names t)
     condition_kind (truth at b) w s = num_kind (if b then 1 else 0)
@@ -451,7 +457,7 @@ module _ (S : CScope) where
         let left = comparand_kind a (both_true (is_whole_number a) (well_part x a) q.0).1 u.0 in
         let right = comparand_kind b (both_true (is_whole_number b) (well_part x b) q.1).1 u.1 in
         settled_kind (settled op (comparand names a).code (comparand names b).code) _
-        (compared_kind op _ _ (compared_with_kind (comparand names a) (comparand names b) left) (compared_with_kind (comparand names b) (comparand names a) right))
+        (compared_kind op _ _ (left_compared_kind (comparand names a) (comparand names b) left) (compared_with_kind (comparand names b) (comparand names a) right))
     condition_kind (same_status at sign a one b) w s =
         let p = both_true (well_status x a) (well_status x b) w in
         let u = both_true (status_served knows a) (status_served knows b) s in

@@ -1,5 +1,6 @@
 use Rattle.std.proofs.Common.{◌∙◌, arith, rules}
-use Rattle.wf_exprs_nodes.proofs.OperandLaws.{each_arg, each_below}
+use Rattle.wf_exprs.proofs.AlikeLaws.{each_below}
+use Rattle.wf_exprs_nodes.proofs.OperandLaws.{each_arg}
 use Rattle.wf_exprs_nodes.proofs.marks.+marking.Goals as goal
 
 pub mark_args-mark_arg-requires : goal.mark_args-mark_arg-requires
