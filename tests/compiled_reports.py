@@ -47,7 +47,6 @@ FURTHER_BUILDS = [["gcc", "-O2"], ["gcc", "-O3"], ["clang", "-O2"]]
 # What compilers may say of random packages, and what is true of these then. Bounds don't look at what never runs: what stands under a
 # comparison that is never met, or after a statement that never goes on.
 TRUE_REMARKS = {
-    "tautological-compare": "a variable is compared with itself",
     "tautological-overlap-compare": "a variable can't be equal to two constants, or is unequal to one of them",
     "self-assign": "a variable is assigned to itself",
     "array-bounds": "an index past an array never runs",
@@ -326,6 +325,64 @@ pub func s.f(c: base.u8, w: base.u16, u: base.u32, q: base.u64, g: slice base.u8
     return m
 }
 """, ["bytes x 01", "call p.f c=255 w=65535 u=4294967295 q=18446744073709551615 g=x", "call p.f c=0 w=0 u=0 q=0 g=null", "call p.f c=254 w=255 u=65535 q=1 g=x"]),
+    "what is compared with itself": ("""\
+pub status "#a"
+pub struct s?(
+    a : array[4] base.u8,
+    n : base.u32,
+    t : base.status,
+)
+pub func s.f!(i: base.u8[..= 3], x: base.u32, y: base.u32, g: slice base.u8) base.u32 {
+    var m : base.u32
+    var t : base.status
+    var v : base.status
+    if args.x == args.x {
+        m ~mod+= 1
+    }
+    if this.n <> this.n {
+        m ~mod+= 2
+    }
+    if this.a[args.i] == this.a[args.i] {
+        m ~mod+= 4
+    }
+    if (args.x ~mod* 2) == (args.x ~mod* 2) {
+        m ~mod+= 8
+    }
+    if (args.x ~mod+ args.y) >= (args.y ~mod+ args.x) {
+        m ~mod+= 16
+    }
+    if (args.x & args.y & this.n) < (args.y & args.x & this.n) {
+        m ~mod+= 32
+    }
+    if ((args.i as base.u32) << 8) <= ((args.i as base.u32) << 8) {
+        m ~mod+= 64
+    }
+    if t == t {
+        m ~mod+= 128
+    }
+    if this.t <> this.t {
+        m ~mod+= 256
+    }
+    v = "#a"
+    if v == t {
+        m ~mod+= 512
+    }
+    if args.g.length() > args.g.length() {
+        m ~mod+= 1024
+    }
+    if (args.i ~sat+ 1) == (args.i ~sat+ 1) {
+        m ~mod+= 2048
+    }
+    while (args.i + 1) <> (args.i + 1) {
+        m ~mod+= 4096
+        break
+    } endwhile
+    if ((args.i ~mod+ 1) as base.u32) <= ((args.i ~mod+ 1) as base.u32) {
+        m ~mod+= 8192
+    }
+    return m
+}
+""", ["bytes x 01", "call p.f i=3 x=4294967295 y=1 g=x", "call p.f i=0 x=0 y=0 g=null"]),
     "a part with a start that is copied": ("""\
 pub struct s?(
     n : base.u64,

@@ -416,8 +416,8 @@ plus_zero_in a ty =
 abbrev pub compared_with : (a b : Rated) → Rated
 compared_with a b = if is_decided a b then plus_zero_in a b.ty else beside a b.ty
 
--- They say so of what is compared with itself, too: gcc of any two expressions that are alike node by node. No compiler takes two calls
--- for one.
+-- They say so of what is compared with itself, too: gcc of any two expressions that are alike node by node, or whose two operands stand
+-- the other way round. No compiler takes two calls for one.
 abbrev mutual
   pub alike : (e other : ExprTree) → Bool
   alike (c.number n) (c.number k) = nat_eq (literal_value n) (literal_value k)
@@ -435,9 +435,16 @@ abbrev mutual
   all_alike (operand e es) (operand e' es') = alike e e' && all_alike es es'
   all_alike es others = false
 
+abbrev pub is_turned : (e other : ExprTree) → Bool
+is_turned (operation op a b others) (operation op' a' b' others') = same_op op op' && (alike a b' && (alike b a' && all_alike others others'))
+is_turned e other = false
+
+abbrev pub is_itself : (e other : ExprTree) → Bool
+is_itself e other = alike e other || is_turned e other
+
 -- The left operand: 0 is added to it where it is compared with itself.
 abbrev pub left_compared : (a b : Rated) → Rated
-left_compared a b = if alike a.code b.code then plus_zero_in a b.ty else compared_with a b
+left_compared a b = if is_itself a.code b.code then plus_zero_in a b.ty else compared_with a b
 
 -- No number is below 0. A comparison that asks for that is 1 or 0 itself.
 abbrev pub is_literal_zero : ExprTree → Bool

@@ -3,15 +3,55 @@
 ghost use Rattle.std.specs.Prelude.{◌≡◌, ◌<◌, length};
 ghost use Rattle.c_text.specs.CFits.{HasExprs};
 ghost use Rattle.c_text.specs.CNodes.{expr_of, operands_in};
-ghost use Rattle.wf_exprs.specs.Exprs.{alike, all_alike as all_alike_trees, same_op as same_operators};
+ghost use Rattle.wf_exprs.specs.Exprs.{alike, all_alike as all_alike_trees, is_itself as is_itself_tree, is_turned as is_turned_tree, same_op as same_operators};
 
 use crate::rated::literal_value;
 use c_text::{CExpr, CExprId, COp, Unit};
 
-/// Whether two expressions are alike node by node. No two calls are. It looks at no node twice and takes no memory. It recurses into
-/// parts, and so goes as deep as expressions stand inside one another; the operands of a chain stand side by side.
+/// Whether compilers take two expressions for one: they are alike node by node, or two operands stand the other way round. It takes
+/// no memory, and a time that is proportional to the smaller of the two.
+pub fn is_itself(u: &Unit, e: CExprId, other: CExprId) -> bool
+    requires one { e.0 < length u.now.exprs }
+    requires other { other.0 < length u.now.exprs }
+    ensures { result ≡ is_itself_tree (expr_of u.now e.0) (expr_of u.now other.0) }
+{
+    are_alike(u, e, other) || is_turned(u, e, other)
+}
+
+// Whether an operation is another one but for the order of its first two operands.
+fn is_turned(u: &Unit, e: CExprId, other: CExprId) -> bool
+    requires one { e.0 < length u.now.exprs }
+    requires other { other.0 < length u.now.exprs }
+    ensures { result ≡ is_turned_tree (expr_of u.now e.0) (expr_of u.now other.0) }
+{
+    match (u.expr(e), u.expr(other)) {
+        (
+            CExpr::Operation {
+                op,
+                first,
+                second,
+                others,
+            },
+            CExpr::Operation {
+                op: sign,
+                first: left,
+                second: right,
+                others: further,
+            },
+        ) => {
+            same_op(*op, *sign)
+                && (are_alike(u, *first, *right)
+                    && (are_alike(u, *second, *left)
+                        && all_alike(u, e, other, others.as_slice(), further.as_slice())))
+        }
+        _ => false,
+    }
+}
+
+// Whether two expressions are alike node by node. No two calls are. It recurses into parts, and so goes as deep as expressions stand
+// inside one another; the operands of a chain stand side by side.
 #[cycle(alike)]
-pub fn are_alike(u: &Unit, e: CExprId, other: CExprId) -> bool
+pub(crate) fn are_alike(u: &Unit, e: CExprId, other: CExprId) -> bool
     requires one { e.0 < length u.now.exprs }
     requires other { other.0 < length u.now.exprs }
     ensures { result ≡ alike (expr_of u.now e.0) (expr_of u.now other.0) }

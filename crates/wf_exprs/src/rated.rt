@@ -12,7 +12,7 @@ ghost use Rattle.wf_exprs.specs.Grown.{Grows, HasExpr, HasNamed};
 ghost use Rattle.wf_exprs.specs.Making.{HasRated, c_op, linked_by, rated_in, small_number};
 ghost use Rattle.wf_exprs.specs.Words.{two as two_trees};
 
-use crate::alike::are_alike;
+use crate::alike::is_itself;
 use crate::names::put_numbered;
 use crate::nodes::{called, cast, is_held, is_literal, literal, number, put, two};
 use c_text::{CExpr, CExprId, CNameId, CNumber, COp, Unit};
@@ -584,7 +584,7 @@ pub fn left_compared(alloc: Global, u: &mut Unit, a: Rated, b: Rated) -> Result<
     ensures grows { Grows u.old u.new }
     ensures made { IfOk result (λ r. HasRated u.new r (left_compared_code (rated_in u.old a) (rated_in u.old b))) }
 {
-    if are_alike(u, a.code, b.code) {
+    if is_itself(u, a.code, b.code) {
         plus_zero_in(alloc, u, a, b.ty)
     } else {
         compared_with(alloc, u, a, b)
