@@ -1,7 +1,7 @@
 -- What an expression of the source is in C. Its value is the same wherever the source's isn't stuck. A cast stands where C
 -- would calculate in another type than the source: a byte beside a word is converted by C itself. Beyond that one stands round an
 -- or that may fill its width, where it is converted.
-use Rattle.std.specs.Prelude.{ℕ, ◌-◌, ◌*◌, ◌^◌, Bool, true, false, not, ◌&&◌, ◌||◌, if◌then◌else◌, nat_eq, nat_le, nat_lt, List, [], ◌∷◌, ◌++◌, Option, None, Some, bytes_eq, bit_and, codes, decimal}
+use Rattle.std.specs.Prelude.{ℕ, zero, suc, ◌-◌, ◌*◌, ◌/◌, ◌^◌, Bool, true, false, not, ◌&&◌, ◌||◌, if◌then◌else◌, nat_eq, nat_le, nat_lt, List, [], ◌∷◌, ◌++◌, Option, None, Some, bytes_eq, bit_and, codes, decimal}
 use Rattle.wf_text.specs.declared.categories.Category.{Category}
 use Rattle.wf_text.specs.declared.categories.Category.TheVariants.{Fine, Note, Suspension, Fault}
 use Rattle.wf_num.specs.declared.c_arithmetic.CTy.{CTy}
@@ -233,18 +233,34 @@ bytes_code names a = variable (io_bytes names a)
 abbrev pub there : Names → ℕ → ExprTree
 there names a = two Sub (end_code names a) (place_code names a)
 
--- The next byte but k, moved up by so many bits.
+-- The next byte but k, and a byte moved up by k bytes within a number of so many bits: C shifts what is calculated in `int` to at
+-- most 16.
 abbrev pub peeked : Names → ℕ → (k : ℕ) → ExprTree
 peeked names a k = c.element (bytes_code names a) (if nat_eq k 0 then place_code names a else two Add (place_code names a) (num k))
 
 abbrev pub raised : (bits k : ℕ) → ExprTree → ExprTree
-raised bits k e = two Shl (if nat_eq bits 32 then cast (uint_of 32) e else e) (num (8 * k))
+raised bits k e = two Shl (if nat_le bits 16 then e else cast (uint_of bits) e) (num (8 * k))
+
+-- The number of 16 bits or more that the next bytes spell, the lowest first or, in big endian, the highest: the sum of the bytes from
+-- the lowest up, each moved up by as many bytes as are below it.
+abbrev pub byte_at : (bits : ℕ) → (big : Bool) → (below : ℕ) → ℕ
+byte_at bits big k = if big then bits / 8 - 1 - k else k
+
+abbrev pub byte_ahead : Names → (io_arg bits : ℕ) → (big : Bool) → (below : ℕ) → ExprTree
+byte_ahead names a bits big k = raised bits k (peeked names a (byte_at bits big k))
+
+abbrev pub bytes_ahead : Names → (io_arg bits : ℕ) → (big : Bool) → (below so_many : ℕ) → Operands
+bytes_ahead names a bits big k zero = no_operand
+bytes_ahead names a bits big k (suc n) = operand (byte_ahead names a bits big k) (bytes_ahead names a bits big (suc k) n)
+
+abbrev pub number_ahead : Names → (io_arg bits : ℕ) → (big : Bool) → ExprTree
+number_ahead names a bits big =
+    operation Add (peeked names a (byte_at bits big 0)) (byte_ahead names a bits big 1) (bytes_ahead names a bits big 2 (bits / 8 - 2))
 
 abbrev pub peek_code : Names → ℕ → PeekForm → Rated
 peek_code names a PeekU8 = rated (peeked names a 0) Int
-peek_code names a PeekU16Le = rated (two Add (peeked names a 0) (raised 16 1 (peeked names a 1))) Int
-peek_code names a PeekU32Le =
-    rated (operation Add (peeked names a 0) (raised 32 1 (peeked names a 1)) (operand (raised 32 2 (peeked names a 2)) (operand (raised 32 3 (peeked names a 3)) no_operand))) U32
+peek_code names a PeekU16Le = rated (number_ahead names a 16 false) Int
+peek_code names a PeekU32Le = rated (number_ahead names a 32 false) U32
 
 abbrev pub position_code : Names → ℕ → ExprTree
 position_code names a = saturated true 64 (member (io_code names a) (codes "pos")) (place_code names a)

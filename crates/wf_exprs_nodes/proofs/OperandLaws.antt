@@ -1,12 +1,13 @@
 -- Operands that a unit has.
-use Rattle.std.proofs.Common.{◌≡◌, ℕ, zero, suc, ◌<◌, List, [], ◌∷◌, ◌++◌, length, get_or, refl, ap, ◌∙◌, arith}
+use Rattle.std.proofs.Common.{◌≡◌, ◌+◌, ◌-◌, ◌≤◌, ℕ, zero, suc, ◌<◌, Bool, List, [], ◌∷◌, ◌++◌, length, get_or, refl, ap, subst, ◌∙◌, arith}
 use Rattle.c_text.specs.declared.ids.CExprId.{CExprId}
 use Rattle.c_text.specs.CFits.{HasArg, HasArgs, HasExprs}
 use Rattle.c_text.specs.declared.nodes.CArg.{CArg}
 use Rattle.c_text.specs.CNodes.{Nodes, expr_of, operands_in}
 use Rattle.c_text.specs.CTree.{ExprTree, Operands, no_operand, operand}
-use Rattle.wf_exprs.specs.Exprs.{with_operand}
+use Rattle.wf_exprs.specs.Exprs.{with_operand, byte_ahead, bytes_ahead}
 use Rattle.wf_exprs.specs.Grown.{Grows, HasExpr}
+use Rattle.wf_exprs.specs.Names.{Names}
 use Rattle.wf_exprs_nodes.specs.Trees.{HasOperands}
 
 pub has_there : (nodes : Nodes) (es : List CExprId) (ts : Operands) → HasOperands nodes es ts → HasExprs (length nodes.exprs) es
@@ -45,3 +46,18 @@ pub each_arg : (nodes : Nodes) (below : ℕ) (args : List CArg) (i : ℕ) (d : C
 each_arg nodes below [] i d h l = absurd (omega (arith, l))
 each_arg nodes below (a ∷ args) zero d h l = h.0
 each_arg nodes below (a ∷ args) (suc i) d h l = each_arg nodes below args i d h.1 (omega (arith, l))
+
+-- One more byte of a number.
+more_bytes : (names : Names) (a bits : ℕ) (big : Bool) (k n j : ℕ) → j ≡ k + n
+    → with_operand (bytes_ahead names a bits big k n) (byte_ahead names a bits big j) ≡ bytes_ahead names a bits big k (suc n)
+more_bytes names a bits big k zero j e = let same : j ≡ k = omega (arith, e) in ap (λ i. operand (byte_ahead names a bits big i) no_operand) same
+more_bytes names a bits big k (suc n) j e = ap (operand (byte_ahead names a bits big k)) (more_bytes names a bits big (suc k) n j (omega (arith, e)))
+
+pub bytes_pushed : (old new : Nodes) (names : Names) (a bits : ℕ) (big : Bool) (below : ℕ) (es : List CExprId) (e : CExprId) → 2 ≤ below → Grows old new
+    → HasOperands old es (bytes_ahead names a bits big 2 (below - 2)) → HasExpr new e.0 (byte_ahead names a bits big below)
+    → HasOperands new (es ++ e ∷ []) (bytes_ahead names a bits big 2 (below + 1 - 2))
+bytes_pushed old new names a bits big below es e le g h k =
+    let one_more : suc (below - 2) ≡ below + 1 - 2 = omega (arith, le) in
+    let all = more_bytes names a bits big 2 (below - 2) below (omega (arith, le)) ∙ ap (bytes_ahead names a bits big 2) one_more in
+    let P : Operands → Type 0 = λ ts. HasOperands new (es ++ e ∷ []) ts in
+    subst P all (has_pushed new es _ e _ (has_kept old new es _ g h) k)

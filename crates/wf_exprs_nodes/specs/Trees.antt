@@ -1,5 +1,5 @@
 -- What becomes of the trees of nodes in C.
-use Rattle.std.specs.Prelude.{◌&&◌, ℕ, Bool, true, false, if◌then◌else◌, List, [], ◌∷◌, Option, Some, None, nat_eq, ⊤}
+use Rattle.std.specs.Prelude.{◌&&◌, ℕ, Bool, true, false, if◌then◌else◌, List, [], ◌∷◌, Option, Some, None, nat_eq, nat_le, ⊤}
 use Rattle.wf_base.specs.declared.marks.Mark.TheVariants.{Pure}
 use Rattle.wf_base.specs.declared.base_methods.BaseSig.{BaseSig}
 use Rattle.wf_base.specs.declared.base_methods.Gives.{Gives}
@@ -14,7 +14,7 @@ use Rattle.c_text.specs.declared.ids.CExprId.{CExprId}
 use Rattle.c_text.specs.CNodes.{Nodes}
 use Rattle.c_text.specs.CTree.{ExprTree, cast, Operands, no_operand, operand}
 use Rattle.wf_exprs.specs.Names.{Names}
-use Rattle.wf_exprs.specs.Exprs.{Rated, rated, calculated, place_code, peeked, raised, given, lowered, lowered_expr, lowered_cond, lowered_status}
+use Rattle.wf_exprs.specs.Exprs.{Rated, rated, calculated, place_code, given, lowered, lowered_expr, lowered_cond, lowered_status}
 use Rattle.wf_exprs.specs.Grown.{HasExpr}
 use Rattle.wf_exprs.specs.Making.{linked_by}
 use Rattle.wf_exprs.specs.Words.{num, two, uint_of}
@@ -76,16 +76,12 @@ HasOperands nodes (e ∷ es) (operand t ts) = HasExpr nodes e.0 t × HasOperands
 HasOperands nodes [] (operand t ts) = ⊥
 HasOperands nodes (e ∷ es) no_operand = ⊥
 
--- Parts of what a reader is asked for: the place of the next byte but k, a byte in the type of a width, and the third and
--- the fourth byte of a number.
+-- Parts of what a reader is asked for: the place of the next byte but k, and a byte in the type of a width.
 abbrev pub place_behind : Names → ℕ → (k : ℕ) → ExprTree
 place_behind names a k = if nat_eq k 0 then place_code names a else two Add (place_code names a) (num k)
 
 abbrev pub widened : (bits : ℕ) → ExprTree → ExprTree
-widened bits e = if nat_eq bits 32 then cast (uint_of 32) e else e
-
-abbrev pub higher_bytes : Names → ℕ → Operands
-higher_bytes names a = operand (raised 32 2 (peeked names a 2)) (operand (raised 32 3 (peeked names a 3)) no_operand)
+widened bits e = if nat_le bits 16 then e else cast (uint_of bits) e
 
 -- What an expression that is a single value is in C where it is assigned, passed or returned.
 abbrev pub lowered_value : Names → ValueTree → ExprTree

@@ -49,10 +49,10 @@ callee_there nodes typed called h =
 module _ (nodes : TypedNodes) (f : Form) (k : ℕ) (rest : Code) where
   await_is : (it : Awaiting) (x : Simple) → ComesTo nodes (comes.Await it) x → (at : Place) × (lower_point f k (await at (target_in nodes it.target) it.a (awaited_in nodes it.call)) rest ≡ lower_simple f k x rest)
   await_is it (await at t a call) h =
-      let code : ℕ → Awaited → Code = λ n c. begun_call f.names c (resume_here k (awoken_call f k (target_in nodes it.target) n c rest)) in (
+      let code : ℕ → Awaited → Code = λ n c. begun_call f.names n c (resume_here k (awoken_call f k (target_in nodes it.target) n c rest)) in (
         at,
         ap (λ n. code n (awaited_in nodes it.call)) h.1.0 ∙ ap (λ c. code a c) h.1.1
-            ∙ ap (λ r. begun_call f.names call (resume_here k r)) (sym (awoken_alike f k t (target_in nodes it.target) h.0 a call rest)),
+            ∙ ap (λ r. begun_call f.names a call (resume_here k r)) (sym (awoken_alike f k t (target_in nodes it.target) h.0 a call rest)),
       )
   await_is it x h = absurd h
 

@@ -1,7 +1,7 @@
 // Base calls that suspend. What begins one stands before the point's label, and the rest after it: a resumed call goes on with
 // what it has.
 
-ghost use Rattle.std.specs.Prelude.{◌≡◌, ◌<◌, true, false, length, IsTrue, IfOk};
+ghost use Rattle.std.specs.Prelude.{◌≡◌, ◌<◌, if◌then◌else◌, true, false, length, IsTrue, IfOk};
 ghost use Rattle.wf_base.specs.BaseTable.{bytes_of as bytes_in, read_width};
 ghost use Rattle.wf_base.specs.declared.base_methods.ReadForm.TheVariants.{ReadU8};
 ghost use Rattle.wf_ast.specs.TypedTree.{to_nothing, take_number, skip, write};
@@ -12,13 +12,12 @@ ghost use Rattle.c_text.specs.CNodes.{code_of, expr_of};
 ghost use Rattle.c_text.specs.CTree.{finish as finish_code, assign as assign_code, cast as cast_code};
 ghost use Rattle.wf_exprs.specs.Exprs.{end_code, given as given_code, place_code, status_constant as constant_code, there as there_code};
 ghost use Rattle.wf_exprs.specs.Grown.{Grows, HasCode, HasExpr};
-ghost use Rattle.wf_exprs.specs.Names.{Names};
 ghost use Rattle.wf_ast.specs.TypedInvariant.{is_expr};
 ghost use Rattle.wf_ast.specs.NodeKinds.{node_number};
 ghost use Rattle.wf_exprs.specs.Words.{num, two as two_codes, uint_of};
 ghost use Rattle.wf_lower_stmts.specs.BodyNodes.{form_in, is_target, target_in};
-ghost use Rattle.wf_lower_stmts.specs.Forms.{count_local, held_local, suspend as suspend_code, when as when_code};
-ghost use Rattle.wf_lower_stmts.specs.Statements.{awoken_call as awoken_code, begun_call as begun_code, is_big_endian as is_big_endian_form, is_used_up as is_used_up_code, next_byte as next_byte_code, put_into as put_into_code, step_on as step_on_code, take_byte as take_byte_code, take_bytes as take_bytes_code, with_byte as with_byte_code, written_byte as written_byte_code};
+ghost use Rattle.wf_lower_stmts.specs.Forms.{count_local, held_local, stays as stays_tree, suspend as suspend_code, when as when_code};
+ghost use Rattle.wf_lower_stmts.specs.Statements.{are_all_there as are_all_there_code, awoken_call as awoken_code, begun_call as begun_code, is_big_endian as is_big_endian_form, is_used_up as is_used_up_code, next_byte as next_byte_code, put_into as put_into_code, step_on as step_on_code, take_all as take_all_code, take_byte as take_byte_code, take_bytes as take_bytes_code, with_byte as with_byte_code, written_byte as written_byte_code};
 ghost use Rattle.wf_lower_blocks.specs.Calls.{awaited_in, is_awaited, is_one_byte as is_one_byte_form, read_all as read_all_code};
 
 use crate::any::given_on;
@@ -26,7 +25,7 @@ use c_text::{CExprId, COp, CStmtId, Unit};
 use wf_ast::ExprId;
 use wf_base::{ReadForm, Width};
 use wf_exprs::nodes::{cast, element, number, two, variable};
-use wf_exprs_nodes::asking::there;
+use wf_exprs_nodes::asking::{number_ahead, there};
 use wf_lower_stmts::Body;
 use wf_lower_stmts::code::{assign, finish, when};
 use wf_lower_stmts::keeping::suspend_with;
@@ -560,38 +559,95 @@ fn write_on(
     wait(b, u, k, a, SHORT_WRITE, rest)
 }
 
-/// `count = 0;`
-fn begin_count(u: &mut Unit, rest: CStmtId) -> Result<CStmtId, NoMemory>
+/// `count = value;`
+fn set_count(u: &mut Unit, value: CExprId, rest: CStmtId) -> Result<CStmtId, NoMemory>
+    requires value { value.0 < length u.old.exprs }
     requires rest { rest.0 < length u.old.stmts }
     ensures grows { Grows u.old u.new }
-    ensures made { IfOk result (λ code. HasCode u.new code.0 (assign_code count_local (num 0) (code_of u.old rest.0))) }
+    ensures made { IfOk result (λ code. HasCode u.new code.0 (assign_code count_local (expr_of u.old value.0) (code_of u.old rest.0))) }
 {
-    let zero = number(u, 0)?;
     let count = count(u)?;
-    assign(u, count, zero, rest)
+    assign(u, count, value, rest)
 }
 
 /// `held = 0; count = 0;`
-fn begin_read(u: &mut Unit, rest: CStmtId) -> Result<CStmtId, NoMemory>
+fn begin_count(u: &mut Unit, rest: CStmtId) -> Result<CStmtId, NoMemory>
     requires rest { rest.0 < length u.old.stmts }
     ensures grows { Grows u.old u.new }
     ensures made { IfOk result (λ code. HasCode u.new code.0 (assign_code held_local (num 0) (assign_code count_local (num 0) (code_of u.old rest.0)))) }
 {
-    let rest = begin_count(u, rest)?;
     let zero = number(u, 0)?;
+    let rest = set_count(u, zero, rest)?;
     set_held(u, zero, rest)
 }
 
-/// A read of one byte begins with nothing.
-fn begun_read(u: &mut Unit, form: ReadForm, rest: CStmtId) -> Result<CStmtId, NoMemory>
+/// Whether all bytes of a number are there.
+fn are_all_there(b: &Body, u: &mut Unit, a: u32, form: ReadForm) -> Result<CExprId, NoMemory>
+    ensures grows { Grows u.old u.new }
+    ensures made { IfOk result (λ e. HasExpr u.new e.0 (are_all_there_code (form_in b.now).names a form)) }
+{
+    let there = there(b.scope(), u, a)?;
+    let all = number(u, bytes_of(form))?;
+    two(b.alloc(), u, COp::Ge, there, all)
+}
+
+/// The place goes on behind all bytes of a number, which are counted as taken.
+fn step_behind(b: &Body, u: &mut Unit, a: u32, form: ReadForm) -> Result<CStmtId, NoMemory>
+    ensures grows { Grows u.old u.new }
+    ensures made { IfOk result (λ code. HasCode u.new code.0 (step_on_code (form_in b.now).names a (num (bytes_in (read_width form))) (assign_code count_local (num (bytes_in (read_width form))) finish_code))) }
+{
+    let all = number(u, bytes_of(form))?;
+    let rest = finish(u)?;
+    let rest = set_count(u, all, rest)?;
+    step_on(b, u, a, all, rest)
+}
+
+/// All bytes of a number are taken.
+fn take_all(b: &Body, u: &mut Unit, a: u32, form: ReadForm) -> Result<CStmtId, NoMemory>
+    requires more { is_one_byte_form form ≡ false }
+    ensures grows { Grows u.old u.new }
+    ensures made { IfOk result (λ code. HasCode u.new code.0 (take_all_code (form_in b.now).names a form)) }
+{
+    let rest = step_behind(b, u, a, form)?;
+    let value = number_ahead(b.scope(), u, a, form.width(), is_big_endian(form))?;
+    set_held(u, value, rest)
+}
+
+/// Nothing is taken yet, or all bytes at once where they are there.
+fn begin_read(
+    b: &Body,
+    u: &mut Unit,
+    a: u32,
+    form: ReadForm,
+    rest: CStmtId,
+) -> Result<CStmtId, NoMemory>
+    requires more { is_one_byte_form form ≡ false }
     requires rest { rest.0 < length u.old.stmts }
     ensures grows { Grows u.old u.new }
-    ensures made { (names : Names) → IfOk result (λ code. HasCode u.new code.0 (begun_code names (take_number form) (code_of u.old rest.0))) }
+    ensures made { IfOk result (λ code. HasCode u.new code.0 (assign_code held_local (num 0) (assign_code count_local (num 0) (when_code (are_all_there_code (form_in b.now).names a form) (take_all_code (form_in b.now).names a form) (code_of u.old rest.0))))) }
+{
+    let body = take_all(b, u, a, form)?;
+    let test = are_all_there(b, u, a, form)?;
+    let rest = when(u, test, body, rest)?;
+    begin_count(u, rest)
+}
+
+/// A read of one byte begins with nothing.
+fn begun_read(
+    b: &Body,
+    u: &mut Unit,
+    a: u32,
+    form: ReadForm,
+    rest: CStmtId,
+) -> Result<CStmtId, NoMemory>
+    requires rest { rest.0 < length u.old.stmts }
+    ensures grows { Grows u.old u.new }
+    ensures made { IfOk result (λ code. HasCode u.new code.0 (begun_code (form_in b.now).names a (take_number form) (code_of u.old rest.0))) }
 {
     if is_one_byte(form) {
         Ok(rest)
     } else {
-        begin_read(u, rest)
+        begin_read(b, u, a, form, rest)
     }
 }
 
@@ -610,7 +666,7 @@ fn begin_write(b: &Body, u: &mut Unit, byte: ExprId, rest: CStmtId) -> Result<CS
     requires byte { IsTrue (is_expr b.now.nodes byte) }
     requires rest { rest.0 < length u.old.stmts }
     ensures grows { Grows u.old u.new }
-    ensures made { IfOk result (λ code. HasCode u.new code.0 (begun_code (form_in b.now).names (write (node_number b.now.nodes byte)) (code_of u.old rest.0))) }
+    ensures made { IfOk result (λ code. HasCode u.new code.0 (if stays_tree (node_number b.now.nodes byte) then code_of u.old rest.0 else assign_code held_local (given_code (form_in b.now).names (node_number b.now.nodes byte)) (code_of u.old rest.0))) }
 {
     if stays(b.typed(), byte) {
         Ok(rest)
@@ -623,16 +679,17 @@ fn begin_write(b: &Body, u: &mut Unit, byte: ExprId, rest: CStmtId) -> Result<CS
 pub(crate) fn begun_call(
     b: &Body,
     u: &mut Unit,
+    a: u32,
     call: Awaited,
     rest: CStmtId,
 ) -> Result<CStmtId, NoMemory>
     requires call { IsTrue (is_awaited b.now.nodes call) }
     requires rest { rest.0 < length u.old.stmts }
     ensures grows { Grows u.old u.new }
-    ensures made { IfOk result (λ code. HasCode u.new code.0 (begun_code (form_in b.now).names (awaited_in b.now.nodes call) (code_of u.old rest.0))) }
+    ensures made { IfOk result (λ code. HasCode u.new code.0 (begun_code (form_in b.now).names a (awaited_in b.now.nodes call) (code_of u.old rest.0))) }
 {
     match call {
-        Awaited::Read(form) => begun_read(u, form, rest),
+        Awaited::Read(form) => begun_read(b, u, a, form, rest),
         Awaited::Skip(count) => begin_with(b, u, count, rest),
         Awaited::Write(byte) => begin_write(b, u, byte, rest),
     }

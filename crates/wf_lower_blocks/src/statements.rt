@@ -186,7 +186,7 @@ fn lower_awaited(
 {
     let rest = awoken_call(b, u, k, it, rest)?;
     let rest = resume_here(u, k, rest)?;
-    begun_call(b, u, it.call, rest)
+    begun_call(b, u, it.a, it.call, rest)
 }
 
 /// A call that suspends its caller: its label, and the call.

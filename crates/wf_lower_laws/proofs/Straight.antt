@@ -16,9 +16,9 @@ use Rattle.wf_exprs.specs.Words.{num, of_self}
 use Rattle.wf_exprs.specs.Reads.{expr_reads, args_read, target_reads, result_reads, value_reads, code_reads}
 use Rattle.wf_lower_laws.proofs.Apart.{right_or}
 use Rattle.wf_exprs.specs.Exprs.{Pair, given, lowered_slice, lowered_status, lowered_cond, status_constant}
-use Rattle.wf_lower_stmts.specs.Forms.{Form, status_local, size_local, is_io, is_kept, stays, holds_something, counts_bytes, keeps, when, put, get, save_locals, restore_locals, save_count, restore_count, save_started, restore_started, give, suspend}
+use Rattle.wf_lower_stmts.specs.Forms.{Form, status_local, size_local, held_local, count_local, is_io, is_kept, stays, holds_something, counts_bytes, keeps, when, put, get, save_locals, restore_locals, save_count, restore_count, save_started, restore_started, give, suspend}
 use Rattle.wf_lower_stmts.specs.Lower.{returns, ending, ending_of, has_result, tail_of, top}
-use Rattle.wf_lower_stmts.specs.Statements.{next_byte, step_on, answer_local, put_into, set_slice, set_value, take_bytes, begun_call, awoken_call, lower_written, is_passed, call_into, hand_on, put_result, handed_call, plain_call, give_status, give_value, begun, awoken, lower_plain}
+use Rattle.wf_lower_stmts.specs.Statements.{next_byte, step_on, answer_local, put_into, set_slice, set_value, take_bytes, are_all_there, take_all, begun_call, awoken_call, lower_written, is_passed, call_into, hand_on, put_result, handed_call, plain_call, give_status, give_value, begun, awoken, lower_plain}
 
 pub data Straight : (rest code : Code) → Type 0 where
   over : {rest : Code} → Straight rest rest
@@ -114,16 +114,20 @@ takes : (names : Names) (a : ℕ) (form : ReadForm) (n : ℕ) (rest : Code) → 
 takes names a form zero rest = over
 takes names a form (suc n) rest = guarded _ _ _ (assigned _ _ _ (assigned _ _ _ (assigned _ _ _ over))) (takes names a form n rest)
 
-begun_calls : (names : Names) (call : Awaited) (rest : Code) → Straight rest (begun_call names call rest)
-begun_calls names (take_number ReadU8) rest = over
-begun_calls names (take_number ReadU16Be) rest = assigned _ _ _ (assigned _ _ _ over)
-begun_calls names (take_number ReadU16Le) rest = assigned _ _ _ (assigned _ _ _ over)
-begun_calls names (take_number ReadU32Be) rest = assigned _ _ _ (assigned _ _ _ over)
-begun_calls names (take_number ReadU32Le) rest = assigned _ _ _ (assigned _ _ _ over)
-begun_calls names (take_number ReadU64Be) rest = assigned _ _ _ (assigned _ _ _ over)
-begun_calls names (take_number ReadU64Le) rest = assigned _ _ _ (assigned _ _ _ over)
-begun_calls names (skip e) rest = assigned _ _ _ over
-begun_calls names (write e) rest = ifs (stays e) _ _ rest over (assigned _ _ _ over)
+begun_more : (names : Names) (a : ℕ) (form : ReadForm) (rest : Code)
+    → Straight rest (c.assign held_local (num 0) (c.assign count_local (num 0) (when (are_all_there names a form) (take_all names a form) rest)))
+begun_more names a form rest = assigned _ _ _ (assigned _ _ _ (guarded _ _ _ (assigned _ _ _ (assigned _ _ _ (assigned _ _ _ over))) over))
+
+begun_calls : (names : Names) (a : ℕ) (call : Awaited) (rest : Code) → Straight rest (begun_call names a call rest)
+begun_calls names a (take_number ReadU8) rest = over
+begun_calls names a (take_number ReadU16Be) rest = begun_more names a ReadU16Be rest
+begun_calls names a (take_number ReadU16Le) rest = begun_more names a ReadU16Le rest
+begun_calls names a (take_number ReadU32Be) rest = begun_more names a ReadU32Be rest
+begun_calls names a (take_number ReadU32Le) rest = begun_more names a ReadU32Le rest
+begun_calls names a (take_number ReadU64Be) rest = begun_more names a ReadU64Be rest
+begun_calls names a (take_number ReadU64Le) rest = begun_more names a ReadU64Le rest
+begun_calls names a (skip e) rest = assigned _ _ _ over
+begun_calls names a (write e) rest = ifs (stays e) _ _ rest over (assigned _ _ _ over)
 
 taken : (f : Form) (j : ℕ) (t : Target) (a : ℕ) (form : ReadForm) (test status_code value : ExprTree) (rest : Code)
     → Straight rest (take_bytes f.names a form (bytes_of (read_width form)) (when test (suspend f j status_code finish) (put_into f.names t value rest)))
@@ -215,7 +219,7 @@ plain_straight f (claim goal ax) rest e = over
 
 pub begun_straight : (f : Form) (j : ℕ) (s : Simple) (rest : Code) → Straight rest (begun f j s rest)
 begun_straight f j (assign t op v) rest = over
-begun_straight f j (await at t a call) rest = begun_calls f.names call rest
+begun_straight f j (await at t a call) rest = begun_calls f.names a call rest
 begun_straight f j (perform at t call) rest = over
 begun_straight f j (invoke at t keep mark called given_args) rest = over
 begun_straight f j (break_from w) rest = over

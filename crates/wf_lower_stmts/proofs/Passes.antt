@@ -88,16 +88,16 @@ module _ (l : Label) where
   takes names a form zero rest k = refl
   takes names a form (suc n) rest k = takes names a form n rest k
 
-  begun_calls : (names : Names) (call : Awaited) (rest : Code) → Passes (begun_call names call rest) rest
-  begun_calls names (take_number ReadU8) rest k = refl
-  begun_calls names (take_number ReadU16Be) rest k = refl
-  begun_calls names (take_number ReadU16Le) rest k = refl
-  begun_calls names (take_number ReadU32Be) rest k = refl
-  begun_calls names (take_number ReadU32Le) rest k = refl
-  begun_calls names (take_number ReadU64Be) rest k = refl
-  begun_calls names (take_number ReadU64Le) rest k = refl
-  begun_calls names (skip e) rest k = refl
-  begun_calls names (write e) rest k = ifs (stays e) _ _ rest (λ k. refl) (λ k. refl) k
+  begun_calls : (names : Names) (a : ℕ) (call : Awaited) (rest : Code) → Passes (begun_call names a call rest) rest
+  begun_calls names a (take_number ReadU8) rest k = refl
+  begun_calls names a (take_number ReadU16Be) rest k = refl
+  begun_calls names a (take_number ReadU16Le) rest k = refl
+  begun_calls names a (take_number ReadU32Be) rest k = refl
+  begun_calls names a (take_number ReadU32Le) rest k = refl
+  begun_calls names a (take_number ReadU64Be) rest k = refl
+  begun_calls names a (take_number ReadU64Le) rest k = refl
+  begun_calls names a (skip e) rest k = refl
+  begun_calls names a (write e) rest k = ifs (stays e) _ _ rest (λ k. refl) (λ k. refl) k
 
   waits : (f : Form) (j n : ℕ) (rest : Code) (k k1 : Continuation)
       → first_of (find l (suspend f j (status_constant n) finish) k1) (find l rest k) ≡ find l rest k
@@ -196,7 +196,7 @@ module _ (l : Label) where
 
   pub begun_passes : (f : Form) (j : ℕ) (s : Simple) (rest : Code) → Passes (begun f j s rest) rest
   begun_passes f j (assign t op v) rest k = refl
-  begun_passes f j (await at t a call) rest k = begun_calls f.names call rest k
+  begun_passes f j (await at t a call) rest k = begun_calls f.names a call rest k
   begun_passes f j (perform at t call) rest k = refl
   begun_passes f j (invoke at t keep mark called given_args) rest k = refl
   begun_passes f j (break_from w) rest k = refl

@@ -4,7 +4,7 @@ use Rattle.wf_text.specs.declared.categories.Category.TheVariants.{Suspension}
 use Rattle.wf_base.specs.declared.marks.Mark.{Mark}
 use Rattle.wf_base.specs.declared.base_methods.ReadForm.{ReadForm}
 use Rattle.wf_base.specs.declared.base_methods.ReadForm.TheVariants.{ReadU8, ReadU16Be, ReadU32Be, ReadU64Be}
-use Rattle.wf_base.specs.BaseTable.{bytes_of, read_width}
+use Rattle.wf_base.specs.BaseTable.{bits_of, bytes_of, read_width}
 use Rattle.wf_ast.specs.declared.types.Ty.{Ty}
 use Rattle.wf_ast.specs.declared.types.Ty.TheVariants as types
 use Rattle.wf_ast.specs.TypedTree.{local, NumTree, SliceTree, slice, array, cut, StatusTree, status, ValueTree, numeric, logical, state, elements, io, lost, Target, to_number, to_element, to_flag, to_status, to_slice, to_nothing, Awaited, take_number, skip, write, Written, skip_fast, write_fast, copy_to_writer, copy_to_slice, Called, own, sub, Simple, assign, await, perform, invoke, break_from, continue_in, give_back, yield}
@@ -18,7 +18,7 @@ use Rattle.c_text.specs.CTree.{ExprTree, variable, element, unary, cast, Code, f
 use Rattle.c_text.specs.CTree as c
 use Rattle.wf_exprs.specs.Names.{Names, local_pointer, local_length, field_name, body_name, entry_name, again_label, behind_label}
 use Rattle.wf_exprs.specs.Words.{num, uint_of, two, self, of_self, args}
-use Rattle.wf_exprs.specs.Exprs.{Pair, path_code, lowered_expr, lowered_slice, given, lowered_status, lowered_cond, status_constant, widened, begins_with, io_code, place_code, end_code, bytes_code, there}
+use Rattle.wf_exprs.specs.Exprs.{Pair, path_code, lowered_expr, lowered_slice, given, lowered_status, lowered_cond, status_constant, widened, begins_with, io_code, place_code, end_code, bytes_code, there, number_ahead}
 use Rattle.wf_lower_stmts.specs.Forms.{Form, status_local, got_local, size_local, held_local, count_local, stays, when, put, get, give, suspend, resume_here}
 
 -- Targets. What stands in C for one that takes a single value.
@@ -85,11 +85,21 @@ take_bytes names a form (suc n) rest = take_byte names a form (take_bytes names 
 abbrev pub written_byte : Names → NumTree → ExprTree
 written_byte names byte = if stays byte then given names byte else held_local
 
-abbrev pub begun_call : Names → Awaited → (rest : Code) → Code
-begun_call names (take_number ReadU8) rest = rest
-begun_call names (take_number form) rest = c.assign held_local (num 0) (c.assign count_local (num 0) rest)
-begun_call names (skip count) rest = c.assign held_local (given names count) rest
-begun_call names (write byte) rest = if stays byte then rest else c.assign held_local (given names byte) rest
+-- A number whose bytes are all there is taken at once.
+abbrev pub are_all_there : Names → (io_arg : ℕ) → ReadForm → ExprTree
+are_all_there names a form = two Ge (there names a) (num (bytes_of (read_width form)))
+
+abbrev pub take_all : Names → (io_arg : ℕ) → ReadForm → Code
+take_all names a form =
+    c.assign held_local (number_ahead names a (bits_of (read_width form)) (is_big_endian form))
+    (step_on names a (num (bytes_of (read_width form))) (c.assign count_local (num (bytes_of (read_width form))) finish))
+
+abbrev pub begun_call : Names → (io_arg : ℕ) → Awaited → (rest : Code) → Code
+begun_call names a (take_number ReadU8) rest = rest
+begun_call names a (take_number form) rest =
+    c.assign held_local (num 0) (c.assign count_local (num 0) (when (are_all_there names a form) (take_all names a form) rest))
+begun_call names a (skip count) rest = c.assign held_local (given names count) rest
+begun_call names a (write byte) rest = if stays byte then rest else c.assign held_local (given names byte) rest
 
 abbrev pub awoken_call : Form → (k : ℕ) → Target → (io_arg : ℕ) → Awaited → (rest : Code) → Code
 awoken_call f k target a (take_number ReadU8) rest =
@@ -223,7 +233,7 @@ give_value f (Some value) rest = rest
 
 -- What stands before a point's label, and what after it.
 abbrev pub begun : Form → (k : ℕ) → Simple → (rest : Code) → Code
-begun f k (await at target a call) rest = begun_call f.names call rest
+begun f k (await at target a call) rest = begun_call f.names a call rest
 begun f k (yield n) rest = suspend f k (status_constant n) rest
 begun f k s rest = rest
 

@@ -2,4 +2,4 @@ use Rattle.wf_exprs.proofs.Growing.{grows_on}
 use Rattle.wf_lower_blocks.proofs.awaiting.begin_read.Goals as goal
 
 pub returns-clause-grows : goal.returns-clause-grows
-returns-clause-grows c = grows_on (grows_on c.begin_count.ensures.grows c.number.ensures.grows) c.set_held.ensures.grows
+returns-clause-grows c = grows_on (grows_on (grows_on c.take_all.ensures.grows c.are_all_there.ensures.grows) c.when.ensures.grows) c.begin_count.ensures.grows
