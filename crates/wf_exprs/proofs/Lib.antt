@@ -1,4 +1,5 @@
 pub mod AlikeLaws
+pub mod ByteLaws
 pub mod Growing
 pub mod Prefixes
 pub mod RatedLaws

@@ -24,7 +24,7 @@ use Rattle.c_meaning.specs.declared.values.CValue.TheVariants.{NullPointer as nu
 use Rattle.c_meaning.specs.CExprs.{Surroundings}
 use Rattle.wf_exprs.specs.Names.{Names, names_of}
 use Rattle.wf_exprs.specs.Words.{num, uint_of, two}
-use Rattle.wf_exprs.specs.Exprs.{calculated, rank, Rated, rated, is_held, converted, widened, beside, is_decided, plus_zero, plus_zero_in, compared_with, alike, left_compared, bare, apart, with_zero, xor_operand, is_ones, is_short_ones, is_converted, pair_compared, comparand, is_array, asked_code, lowered, given, lowered_slice, lowered_end}
+use Rattle.wf_exprs.specs.Exprs.{calculated, rank, Rated, rated, is_held, converted, widened, beside, is_decided, plus_zero, plus_zero_in, compared_with, is_itself, left_compared, bare, apart, with_zero, xor_operand, is_ones, is_short_ones, is_converted, pair_compared, comparand, is_array, asked_code, lowered, given, lowered_slice, lowered_end}
 use Rattle.c_text.specs.declared.kinds.COp.TheVariants.{Add}
 use Rattle.c_text.specs.CTree.{ExprTree, cast}
 use Rattle.wf_exprs_laws.specs.ExprLaw.{DeclaresOperator, DeclaresQuestion, Declares, DeclaresSlice, DeclaresEnd, GivesPointer, SpanStands, Stands}
@@ -155,7 +155,7 @@ compared_with-number x a b n h = by (is_decided a b)
     by false = beside-number x a b.ty n h
 
 pub left_compared-number : (x : Surroundings) (a b : Rated) (n : ℕ) → IsNumber x a.code a.ty n → IsNumber x (left_compared a b).code (left_compared a b).ty n
-left_compared-number x a b n h = by (alike a.code b.code)
+left_compared-number x a b n h = by (is_itself a.code b.code)
   where
     by : (test : Bool) → IsNumber x (if test then plus_zero_in a b.ty else compared_with a b).code (if test then plus_zero_in a b.ty else compared_with a b).ty n
     by true = plus_zero_in-number x a b.ty n h

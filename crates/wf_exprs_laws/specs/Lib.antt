@@ -1,2 +1,3 @@
+pub mod AheadLaw
 pub mod ExprLaw
 pub mod HelperLaw

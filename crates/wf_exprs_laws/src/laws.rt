@@ -1,5 +1,6 @@
 // The laws of expressions. Each is the contract of a function that does nothing.
 
+ghost use Rattle.wf_exprs_laws.specs.AheadLaw.{IsAheadLaw};
 ghost use Rattle.wf_exprs_laws.specs.ExprLaw.{IsExprLaw, IsStored};
 ghost use Rattle.wf_exprs_laws.specs.HelperLaw.{IsHelperLaw};
 
@@ -18,4 +19,9 @@ pub fn numbers_are_stored_as_they_are()
 /// expression stands for the operator: so a text that declares them meets what the law of expressions supposes of them.
 pub fn helpers_do_as_they_say()
     ensures { IsHelperLaw }
+{}
+
+/// A number of which a reader has all bytes is the expression that takes them at once, of 16, 32 and 64 bits and in both orders.
+pub fn numbers_ahead_are_what_bytes_spell()
+    ensures { IsAheadLaw }
 {}

@@ -8,6 +8,7 @@ use Rattle.c_text.specs.CTree.{ExprTree, Operands, no_operand, operand}
 use Rattle.wf_exprs.specs.Exprs.{with_operand, byte_ahead, bytes_ahead}
 use Rattle.wf_exprs.specs.Grown.{Grows, HasExpr}
 use Rattle.wf_exprs.specs.Names.{Names}
+use Rattle.wf_exprs.proofs.ByteLaws.{more_bytes}
 use Rattle.wf_exprs_nodes.specs.Trees.{HasOperands}
 
 pub has_there : (nodes : Nodes) (es : List CExprId) (ts : Operands) → HasOperands nodes es ts → HasExprs (length nodes.exprs) es
@@ -48,11 +49,6 @@ each_arg nodes below (a ∷ args) zero d h l = h.0
 each_arg nodes below (a ∷ args) (suc i) d h l = each_arg nodes below args i d h.1 (omega (arith, l))
 
 -- One more byte of a number.
-more_bytes : (names : Names) (a bits : ℕ) (big : Bool) (k n j : ℕ) → j ≡ k + n
-    → with_operand (bytes_ahead names a bits big k n) (byte_ahead names a bits big j) ≡ bytes_ahead names a bits big k (suc n)
-more_bytes names a bits big k zero j e = let same : j ≡ k = omega (arith, e) in ap (λ i. operand (byte_ahead names a bits big i) no_operand) same
-more_bytes names a bits big k (suc n) j e = ap (operand (byte_ahead names a bits big k)) (more_bytes names a bits big (suc k) n j (omega (arith, e)))
-
 pub bytes_pushed : (old new : Nodes) (names : Names) (a bits : ℕ) (big : Bool) (below : ℕ) (es : List CExprId) (e : CExprId) → 2 ≤ below → Grows old new
     → HasOperands old es (bytes_ahead names a bits big 2 (below - 2)) → HasExpr new e.0 (byte_ahead names a bits big below)
     → HasOperands new (es ++ e ∷ []) (bytes_ahead names a bits big 2 (below + 1 - 2))

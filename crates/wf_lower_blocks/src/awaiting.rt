@@ -587,8 +587,8 @@ fn are_all_there(b: &Body, u: &mut Unit, a: u32, form: ReadForm) -> Result<CExpr
     ensures made { IfOk result (λ e. HasExpr u.new e.0 (are_all_there_code (form_in b.now).names a form)) }
 {
     let there = there(b.scope(), u, a)?;
-    let all = number(u, bytes_of(form))?;
-    two(b.alloc(), u, COp::Ge, there, all)
+    let least = number(u, bytes_of(form))?;
+    two(b.alloc(), u, COp::Ge, there, least)
 }
 
 /// The place goes on behind all bytes of a number, which are counted as taken.
@@ -596,10 +596,11 @@ fn step_behind(b: &Body, u: &mut Unit, a: u32, form: ReadForm) -> Result<CStmtId
     ensures grows { Grows u.old u.new }
     ensures made { IfOk result (λ code. HasCode u.new code.0 (step_on_code (form_in b.now).names a (num (bytes_in (read_width form))) (assign_code count_local (num (bytes_in (read_width form))) finish_code))) }
 {
-    let all = number(u, bytes_of(form))?;
+    let taken = number(u, bytes_of(form))?;
     let rest = finish(u)?;
-    let rest = set_count(u, all, rest)?;
-    step_on(b, u, a, all, rest)
+    let rest = set_count(u, taken, rest)?;
+    let further = number(u, bytes_of(form))?;
+    step_on(b, u, a, further, rest)
 }
 
 /// All bytes of a number are taken.

@@ -4,7 +4,7 @@ use Rattle.std.specs.Prelude.{if◌then◌else◌, nat_eq, nat_le, slice_get, co
 use Rattle.std.specs.List.{list_all}
 use Rattle.wf_base.specs.declared.base_methods.ReadForm.{ReadForm}
 use Rattle.wf_base.specs.declared.base_methods.ReadForm.TheVariants.{ReadU8, ReadU16Be, ReadU16Le, ReadU32Be, ReadU32Le, ReadU64Be, ReadU64Le}
-use Rattle.wf_base.specs.BaseTable.{bytes_of, read_width}
+use Rattle.wf_base.specs.BaseTable.{bits_of, bytes_of, read_width}
 use Rattle.wf_base.specs.declared.marks.Mark.{Mark}
 use Rattle.wf_base.specs.declared.marks.Mark.TheVariants.{Pure, Impure, Coroutine}
 use Rattle.wf_ast.specs.declared.types.Ty.{Ty}
@@ -26,10 +26,10 @@ use Rattle.wf_exprs.specs.Words.{num, two, args}
 use Rattle.wf_exprs.specs.Exprs.{Pair, taken, bare, lowered_expr, given, lowered_slice, lowered_status, lowered_cond, status_constant, begins_with, io_code, place_code, end_code, there}
 use Rattle.wf_lower_stmts.specs.Forms.{Form, status_local, held_local, size_local, count_local, is_io, is_kept, stays, holds_something, counts_bytes, keeps, place_in, end_of, when, put, get, save_locals, restore_locals, save_count, restore_count, save_started, restore_started, give, suspend, resume_here}
 use Rattle.wf_lower_stmts.specs.Lower.{lower, continues, again_here, other_kind, returns, ending, ending_of, has_result, tail_of, top}
-use Rattle.wf_lower_stmts.specs.Statements.{next_byte, step_on, is_big_endian, with_byte, slice_bits, bytes_for, answer_local, is_wanted, put_into, set_slice, set_value, take_byte, take_bytes, written_byte, begun_call, awoken_call, lower_written, value_codes, values_codes, receiver_code, is_passed, call_into, hand_on, put_result, handed_call, plain_call, give_status, give_value, begun, awoken, lower_point, lower_plain, lower_simple}
+use Rattle.wf_lower_stmts.specs.Statements.{next_byte, step_on, is_big_endian, with_byte, slice_bits, bytes_for, answer_local, is_wanted, put_into, set_slice, set_value, take_byte, take_bytes, written_byte, are_all_there, take_all, begun_call, awoken_call, lower_written, value_codes, values_codes, receiver_code, is_passed, call_into, hand_on, put_result, handed_call, plain_call, give_status, give_value, begun, awoken, lower_point, lower_plain, lower_simple}
 use Rattle.wf_lower_laws.specs.BracketLaw.{num_within, slice_within, cond_within, value_within, target_within, awaited_within, written_within, simple_within, is_chained, block_within}
 use Rattle.wf_lower_laws.proofs.OpenBrackets.{ExprOpens, ArgsOpen, ValueOpens, CodeOpens}
-use Rattle.wf_lower_laws.proofs.ExprBrackets.{ExprBy, by_more, by_if, by_two, by_unary, by_cast, by_element, by_choice, by_num, by_path, by_constant, by_status, by_begins, at_least_one, PairBy, by_widened, num_by, slice_by, given_by, cond_by}
+use Rattle.wf_lower_laws.proofs.ExprBrackets.{ExprBy, by_more, by_if, by_two, by_unary, by_cast, by_element, by_choice, by_num, by_path, by_constant, by_status, by_begins, by_number_ahead, at_least_one, PairBy, by_widened, num_by, slice_by, given_by, cond_by}
 
 pub record CodeBy (k : ℕ) (code : Code) : Type 0 where
   pub by : (n : ℕ) → n + k ≤ 512 → CodeOpens n code
@@ -229,16 +229,31 @@ module _ (d : ℕ) where
   held_by : (rest : Code) → CodeBy k_max rest → CodeBy k_max (c.assign held_local (num 0) (c.assign count_local (num 0) rest))
   held_by rest i = code_assign k_max _ _ _ (easy k_max _ (λ m. tt {0})) (by_num k_max 0) (code_assign k_max _ _ _ (easy k_max _ (λ m. tt {0})) (by_num k_max 0) i)
 
-  begun_calls_by : (names : Names) (call : Awaited) (rest : Code) → awaited_within d call ≡ true → CodeBy k_max rest → CodeBy k_max (begun_call names call rest)
-  begun_calls_by names (take_number ReadU8) rest w i = i
-  begun_calls_by names (take_number ReadU16Be) rest w i = held_by rest i
-  begun_calls_by names (take_number ReadU16Le) rest w i = held_by rest i
-  begun_calls_by names (take_number ReadU32Be) rest w i = held_by rest i
-  begun_calls_by names (take_number ReadU32Le) rest w i = held_by rest i
-  begun_calls_by names (take_number ReadU64Be) rest w i = held_by rest i
-  begun_calls_by names (take_number ReadU64Le) rest w i = held_by rest i
-  begun_calls_by names (skip n) rest w i = code_assign k_max _ _ _ (easy k_max _ (λ m. tt {0})) (deep_given _ (given_by names d n w)) i
-  begun_calls_by names (write b) rest w i = code_if k_max (stays b) _ _ i (code_assign k_max _ _ _ (easy k_max _ (λ m. tt {0})) (deep_given _ (given_by names d b w)) i)
+  all_by : (names : Names) (a : ℕ) (form : ReadForm) → CodeBy 5 (take_all names a form)
+  all_by names a form =
+      let all = num (bytes_of (read_width form)) in
+      code_assign 5 held_local _ _ (easy 5 held_local (λ m. tt {0})) (by_number_ahead names a (bits_of (read_width form)) (is_big_endian form))
+      (code_assign 5 (place_code names a) (two Add (place_code names a) all) _ (easy 5 (place_code names a) (λ m. tt {0})) (by_two 0 5 Add (place_code names a) all (omega arith) (easy 0 (place_code names a) (λ m. tt {0})) (by_num 0 (bytes_of (read_width form))))
+      (code_assign 5 count_local all finish (easy 5 count_local (λ m. tt {0})) (by_num 5 (bytes_of (read_width form))) (code_finish 5)))
+
+  begun_more_by : (names : Names) (a : ℕ) (form : ReadForm) (rest : Code) → CodeBy k_max rest
+      → CodeBy k_max (c.assign held_local (num 0) (c.assign count_local (num 0) (when (are_all_there names a form) (take_all names a form) rest)))
+  begun_more_by names a form rest i =
+      held_by _
+      (code_when 5 k_max (are_all_there names a form) (take_all names a form) rest (omega arith)
+      (by_two 1 5 Ge (there names a) (num (bytes_of (read_width form))) (omega arith) (by_two 0 1 Sub (end_code names a) (place_code names a) (omega arith) (easy 0 (end_code names a) (λ m. tt {0})) (easy 0 (place_code names a) (λ m. tt {0}))) (by_num 1 (bytes_of (read_width form))))
+      (all_by names a form) i)
+
+  begun_calls_by : (names : Names) (a : ℕ) (call : Awaited) (rest : Code) → awaited_within d call ≡ true → CodeBy k_max rest → CodeBy k_max (begun_call names a call rest)
+  begun_calls_by names a (take_number ReadU8) rest w i = i
+  begun_calls_by names a (take_number ReadU16Be) rest w i = begun_more_by names a ReadU16Be rest i
+  begun_calls_by names a (take_number ReadU16Le) rest w i = begun_more_by names a ReadU16Le rest i
+  begun_calls_by names a (take_number ReadU32Be) rest w i = begun_more_by names a ReadU32Be rest i
+  begun_calls_by names a (take_number ReadU32Le) rest w i = begun_more_by names a ReadU32Le rest i
+  begun_calls_by names a (take_number ReadU64Be) rest w i = begun_more_by names a ReadU64Be rest i
+  begun_calls_by names a (take_number ReadU64Le) rest w i = begun_more_by names a ReadU64Le rest i
+  begun_calls_by names a (skip n) rest w i = code_assign k_max _ _ _ (easy k_max _ (λ m. tt {0})) (deep_given _ (given_by names d n w)) i
+  begun_calls_by names a (write b) rest w i = code_if k_max (stays b) _ _ i (code_assign k_max _ _ _ (easy k_max _ (λ m. tt {0})) (deep_given _ (given_by names d b w)) i)
 
   taken_by : (f : Form) (j : ℕ) (t : Target) (a : ℕ) (form : ReadForm) (n : ℕ) (rest : Code) → target_within d t ≡ true → CodeBy k_max rest
       → CodeBy k_max (take_bytes f.names a form (bytes_of (read_width form)) (when (two Lt count_local (num (bytes_of (read_width form)))) (suspend f j (status_constant n) finish) (put_into f.names t held_local rest)))
@@ -443,7 +458,7 @@ module _ (d : ℕ) where
 
   begun_by : (f : Form) (j : ℕ) (s : Simple) (rest : Code) → simple_within d s ≡ true → CodeBy k_max rest → CodeBy k_max (begun f j s rest)
   begun_by f j (assign t op v) rest u i = i
-  begun_by f j (await at t a call) rest u i = begun_calls_by f.names call rest (both_true (target_within d t) (awaited_within d call) u).1 i
+  begun_by f j (await at t a call) rest u i = begun_calls_by f.names a call rest (both_true (target_within d t) (awaited_within d call) u).1 i
   begun_by f j (perform at t call) rest u i = i
   begun_by f j (invoke at t keep mark called given_args) rest u i = i
   begun_by f j (break_from w) rest u i = i

@@ -1,5 +1,5 @@
 -- How many brackets an expression opens: no more than five for each that stands inside another.
-use Rattle.std.proofs.Common.{◌≡◌, ℕ, ◌+◌, ◌-◌, ◌*◌, ◌≤◌, Bool, true, false, not, ◌&&◌, List, Option, Some, None, nat_eq, refl, sym, subst, arith}
+use Rattle.std.proofs.Common.{◌≡◌, ℕ, zero, suc, ◌+◌, ◌-◌, ◌*◌, ◌/◌, ◌≤◌, Bool, true, false, not, ◌&&◌, List, Option, Some, None, nat_eq, refl, sym, subst, arith}
 use Rattle.std.specs.Prelude.{if◌then◌else◌, nat_le, nat_lt}
 use Rattle.std.proofs.lemmas.Bool.Decides.{nat_tests}
 use Rattle.std.proofs.lemmas.Slice.Eq.{bytes_eq-Decides}
@@ -25,7 +25,7 @@ use Rattle.c_text.specs.CTree as c
 use Rattle.wf_exprs.specs.Names.{Names}
 use Rattle.wf_exprs.specs.Words.{num, uint_of, two}
 use Rattle.wf_ast.specs.Value.{same_truth}
-use Rattle.wf_exprs.specs.Exprs.{calculated, rank, Rated, rated, recast, firm, balanced, op_of, with_operand, same_op, chained, saturated, cut_off, taken, is_filled, factor, linked, converted, widened, path_code, Pair, path_pair, is_array, moved, part_pointer, part_length, place_code, bytes_code, peeked, raised, peek_code, asked_code, lowered, lowered_slice, lowered_end, bare, is_ones, is_short_ones, is_converted, apart, with_zero, xor_operand, pair_compared, comparand, beside, is_decided, plus_zero, plus_zero_in, compared_with, alike, left_compared, settled, settled_or, given, status_constant, lowered_status, same_code, is_literal, is_held, compared, is_constant, constant_number, constants_compared, held_compared, variables_compared, statuses_compared, begins_with, category_code, lowered_cond}
+use Rattle.wf_exprs.specs.Exprs.{calculated, rank, Rated, rated, recast, firm, balanced, op_of, with_operand, same_op, chained, saturated, cut_off, taken, is_filled, factor, linked, converted, widened, path_code, Pair, path_pair, is_array, moved, part_pointer, part_length, place_code, bytes_code, peeked, raised, byte_at, byte_ahead, bytes_ahead, number_ahead, peek_code, asked_code, lowered, lowered_slice, lowered_end, bare, is_ones, is_short_ones, is_converted, apart, with_zero, xor_operand, pair_compared, comparand, beside, is_decided, plus_zero, plus_zero_in, compared_with, is_itself, left_compared, settled, settled_or, given, status_constant, lowered_status, same_code, is_literal, is_held, compared, is_constant, constant_number, constants_compared, held_compared, variables_compared, statuses_compared, begins_with, category_code, lowered_cond}
 use Rattle.wf_lower_laws.specs.BracketLaw.{repeats, goes_on, cond_goes_on, num_within, slice_within, end_within, cond_within}
 use Rattle.wf_lower_laws.proofs.Apart.{same_number}
 use Rattle.wf_lower_laws.proofs.OpenBrackets.{ExprOpens, OperandsOpen}
@@ -393,23 +393,30 @@ module _ (names : Names) where
 
   by_raised : (bits j : ℕ) (e : ExprTree) → ExprBy 2 e → ExprBy 4 (raised bits j e)
   by_raised bits j e h =
-      by_two 3 4 Shl _ (num (8 * j)) (omega arith) (by_if 3 (nat_eq bits 32) (cast (uint_of 32) e) e (by_cast 2 3 (uint_of 32) e (omega arith) (omega arith) h) (by_more 2 3 e (omega arith) h)) (by_num 3 (8 * j))
+      by_two 3 4 Shl _ (num (8 * j)) (omega arith) (by_if 3 (nat_le bits 16) e (cast (uint_of bits) e) (by_more 2 3 e (omega arith) h) (by_cast 2 3 (uint_of bits) e (omega arith) (omega arith) h)) (by_num 3 (8 * j))
 
-  by_peek : (a : ℕ) (form : PeekForm) → ExprBy 5 (peek_code names a form).code
-  by_peek a PeekU8 = by_more 2 5 _ (omega arith) (by_byte a 0)
-  by_peek a PeekU16Le = by_two 4 5 Add _ _ (omega arith) (by_more 2 4 _ (omega arith) (by_byte a 0)) (by_raised 16 1 (peeked names a 1) (by_byte a 1))
-  by_peek a PeekU32Le = record {
+  by_byte_ahead : (a bits : ℕ) (big : Bool) (k : ℕ) → ExprBy 4 (byte_ahead names a bits big k)
+  by_byte_ahead a bits big k = by_raised bits k _ (by_byte a (byte_at bits big k))
+
+  by_bytes_ahead : (a bits : ℕ) (big : Bool) (k so_many n : ℕ) → n + 4 ≤ 512 → OperandsOpen n (bytes_ahead names a bits big k so_many)
+  by_bytes_ahead a bits big k zero n m = tt
+  by_bytes_ahead a bits big k (suc so_many) n m = ((by_byte_ahead a bits big k).by n m, by_bytes_ahead a bits big (suc k) so_many n m)
+
+  pub by_number_ahead : (a bits : ℕ) (big : Bool) → ExprBy 5 (number_ahead names a bits big)
+  by_number_ahead a bits big = record {
     by = λ n m. (
       omega (arith, m),
       (
-        (by_byte a 0).by (n + 1) (omega (arith, m)),
-        (
-          (by_raised 32 1 (peeked names a 1) (by_byte a 1)).by (n + 1) (omega (arith, m)),
-          ((by_raised 32 2 (peeked names a 2) (by_byte a 2)).by (n + 1) (omega (arith, m)), ((by_raised 32 3 (peeked names a 3) (by_byte a 3)).by (n + 1) (omega (arith, m)), tt)),
-        ),
+        (by_byte a (byte_at bits big 0)).by (n + 1) (omega (arith, m)),
+        ((by_byte_ahead a bits big 1).by (n + 1) (omega (arith, m)), by_bytes_ahead a bits big 2 (bits / 8 - 2) (n + 1) (omega (arith, m))),
       ),
     );
   }
+
+  by_peek : (a : ℕ) (form : PeekForm) → ExprBy 5 (peek_code names a form).code
+  by_peek a PeekU8 = by_more 2 5 _ (omega arith) (by_byte a 0)
+  by_peek a PeekU16Le = by_number_ahead a 16 false
+  by_peek a PeekU32Le = by_number_ahead a 32 false
 
   by_asked : (a : ℕ) (question : Question) → ExprBy 5 (asked_code names a question).code
   by_asked a reader_length = by_two 0 5 Sub _ _ (omega arith) (record { by = λ m o. tt }) (record { by = λ m o. tt })
@@ -547,7 +554,7 @@ module _ (names : Names) where
 
   by_left_compared : (d k : ℕ) (a b : Rated) → 1 ≤ d → d + 2 ≤ k → ExprBy d a.code → ExprBy k (left_compared a b).code
   by_left_compared d k a b m l h =
-      by_rated_if k (alike a.code b.code) (plus_zero_in a b.ty) (compared_with a b) (by_plus_zero_in d k a b.ty m l h) (by_compared_with d k a b m l h)
+      by_rated_if k (is_itself a.code b.code) (plus_zero_in a b.ty) (compared_with a b) (by_plus_zero_in d k a b.ty m l h) (by_compared_with d k a b m l h)
 
   by_settled : (k : ℕ) (o : Option Bool) (e : ExprTree) → ExprBy k e → ExprBy k (settled_or o e)
   by_settled k None e h = h

@@ -1,5 +1,5 @@
 -- What kind of value the expressions of a text have: numbers, pointers to cells, and pointers to strings.
-use Rattle.std.proofs.Common.{◌≡◌, ◌⊎◌, inl, inr, ℕ, ◌*◌, Bool, true, false, not, ◌&&◌, ◌||◌, List, [], ◌∷◌, ◌++◌, Option, Some, None, nat_eq, refl, sym, ap, ◌∙◌, subst, arith}
+use Rattle.std.proofs.Common.{◌≡◌, ◌⊎◌, inl, inr, ℕ, zero, suc, ◌+◌, ◌-◌, ◌*◌, ◌/◌, Bool, true, false, not, ◌&&◌, ◌||◌, List, [], ◌∷◌, ◌++◌, Option, Some, None, nat_eq, refl, sym, ap, ◌∙◌, subst, arith}
 use Rattle.std.specs.Prelude.{if◌then◌else◌, nat_le, nat_lt, option_and_then, codes}
 use Rattle.std.proofs.lemmas.Bool.Decides.{nat_tests}
 use Rattle.wf_num.specs.declared.c_arithmetic.CTy.{CTy}
@@ -26,7 +26,8 @@ use Rattle.c_meaning.specs.CValues.{common}
 use Rattle.c_meaning.specs.CTypes.{CScope, promoted, ExprType, numbers, points_to, zero_literal, byte, as_number, arithmetic_type, sum_type, one_type, test_type, operation_type, operations_type, type_of, operand_types, cast_from, literal_type}
 use Rattle.wf_exprs.specs.Names.{Names}
 use Rattle.wf_exprs.specs.Words.{literal, num, uint_of, width_of, two}
-use Rattle.wf_exprs.specs.Exprs.{calculated, rank, Rated, rated, recast, firm, balanced, with_operand, same_op, chained, cut_off, taken, is_filled, factor, linked, converted, widened, is_held, is_array as is_whole, moved, part_pointer, part_length, io_code, place_code, end_code, bytes_code, peeked, raised, peek_code, asked_code, same_code, compared, is_literal, is_constant, constant_number, constants_compared, held_compared, variables_compared, statuses_compared, begins_with, category_code, lowered, lowered_slice, lowered_end, is_ones, is_short_ones, is_converted, apart, with_zero, xor_operand, pair_compared, comparand, beside, is_decided, plus_zero, plus_zero_in, compared_with, alike, left_compared, settled, settled_or, lowered_status, lowered_cond}
+use Rattle.wf_exprs.specs.Exprs.{calculated, rank, Rated, rated, recast, firm, balanced, with_operand, same_op, chained, cut_off, taken, is_filled, factor, linked, converted, widened, is_held, is_array as is_whole, moved, part_pointer, part_length, io_code, place_code, end_code, bytes_code, peeked, byte_at, byte_ahead, bytes_ahead, number_ahead, peek_code, asked_code, same_code, compared, is_literal, is_constant, constant_number, constants_compared, held_compared, variables_compared, statuses_compared, begins_with, category_code, lowered, lowered_slice, lowered_end, is_ones, is_short_ones, is_converted, apart, with_zero, xor_operand, pair_compared, comparand, beside, is_decided, plus_zero, plus_zero_in, compared_with, is_itself, left_compared, settled, settled_or, lowered_status, lowered_cond}
+use Rattle.wf_exprs.proofs.ByteLaws.{more_bytes}
 use Rattle.wf_lower_laws.proofs.Surfaces.{same_width}
 use Rattle.wf_lower_laws.specs.KindLaw.{IsNum, IsPointer, IsText, IsBuffer, Declares, has_op, has_question, num_served, slice_served, end_served, status_served, cond_served, ExpressionsKeepKinds}
 
@@ -277,6 +278,29 @@ module _ (S : CScope) where
   category_kind Suspension e h = begins_kind 36 e h
   category_kind Fault e h = begins_kind 35 e h
 
+  -- The number that the next bytes of a reader spell.
+  module _ (names : Names) (a : ℕ) (place : IsNum S (place_code names a)) (bytes : IsPointer S 8 (bytes_code names a)) where
+    byte_kind : (k : ℕ) → IsNum S (peeked names a k)
+    byte_kind k = element_kind 8 _ _ bytes (kind_if (nat_eq k 0) (place_code names a) (two Add (place_code names a) (num k)) place (two_kind Add (place_code names a) (num k) place (num_kind k)))
+
+    byte_ahead_kind : (bits : ℕ) (big : Bool) (k : ℕ) → IsNum S (byte_ahead names a bits big k)
+    byte_ahead_kind bits big k =
+        let byte = byte_kind (byte_at bits big k) in
+        two_kind Shl _ (num (8 * k)) (kind_if (nat_le bits 16) (peeked names a (byte_at bits big k)) (cast (uint_of bits) (peeked names a (byte_at bits big k))) byte (cast_kind bits _ byte)) (num_kind (8 * k))
+
+    bytes_kind : (bits : ℕ) (big : Bool) (first second : ExprTree) (k n : ℕ) → IsNum S (two Add first second) → IsNum S (operation Add first second (bytes_ahead names a bits big k n))
+    bytes_kind bits big first second k zero h = h
+    bytes_kind bits big first second k (suc n) h =
+        let P : Operands → Type 0 = λ es. IsNum S (operation Add first second es) in
+        subst P (more_bytes names a bits big k n (k + n) refl)
+        (longer_kind Add first second (bytes_ahead names a bits big k n) (byte_ahead names a bits big (k + n)) (bytes_kind bits big first second k n h) (byte_ahead_kind bits big (k + n)))
+
+    pub number_ahead_kind : (bits : ℕ) (big : Bool) → IsNum S (number_ahead names a bits big)
+    number_ahead_kind bits big =
+        let lowest = peeked names a (byte_at bits big 0) in
+        let second = byte_ahead names a bits big 1 in
+        bytes_kind bits big lowest second 2 (bits / 8 - 2) (two_kind Add lowest second (byte_kind (byte_at bits big 0)) (byte_ahead_kind bits big 1))
+
   module _ (x : Context) (names : Names) (has : Bool → ℕ → Bool) (knows reads : ℕ → Bool) (d : Declares S x names has knows reads) where
     linked_kind : (op : Arith) (bits : ℕ) (joined : Bool) (a b : Rated) → has_op has op bits ≡ true → IsNum S a.code → IsNum S b.code → IsNum S (linked op bits joined a b)
     linked_kind plus bits joined a b g h j = chained_kind joined Add (balanced bits a b) b.code (balanced_kind bits a b h) j
@@ -296,20 +320,10 @@ module _ (S : CScope) where
     linked_kind sat_plus bits joined a b g h j = d.calls true bits (taken bits a.code) (taken bits b.code) g (taken_kind bits a.code h) (taken_kind bits b.code j)
     linked_kind sat_minus bits joined a b g h j = d.calls false bits (taken bits a.code) (taken bits b.code) g (taken_kind bits a.code h) (taken_kind bits b.code j)
 
-    byte_kind : (a j : ℕ) → IsBuffer S names a → IsPointer S 8 (bytes_code names a) → IsNum S (peeked names a j)
-    byte_kind a j b p =
-        element_kind 8 _ _ p (kind_if (nat_eq j 0) (place_code names a) (two Add (place_code names a) (num j)) b.place (two_kind Add (place_code names a) (num j) b.place (num_kind j)))
-
-    raised_kind : (bits j : ℕ) (e : ExprTree) → IsNum S e → IsNum S (raised bits j e)
-    raised_kind bits j e h = two_kind Shl _ (num (8 * j)) (kind_if (nat_eq bits 32) (cast (uint_of 32) e) e (cast_kind 32 e h) h) (num_kind (8 * j))
-
     peek_kind : (a : ℕ) (form : PeekForm) → IsBuffer S names a → IsPointer S 8 (bytes_code names a) → IsNum S (peek_code names a form).code
-    peek_kind a PeekU8 b p = byte_kind a 0 b p
-    peek_kind a PeekU16Le b p = two_kind Add _ _ (byte_kind a 0 b p) (raised_kind 16 1 _ (byte_kind a 1 b p))
-    peek_kind a PeekU32Le b p =
-        longer_kind Add (peeked names a 0) (raised 32 1 (peeked names a 1)) (operand (raised 32 2 (peeked names a 2)) no_operand) (raised 32 3 (peeked names a 3))
-        (longer_kind Add (peeked names a 0) (raised 32 1 (peeked names a 1)) no_operand (raised 32 2 (peeked names a 2))
-        (two_kind Add (peeked names a 0) (raised 32 1 (peeked names a 1)) (byte_kind a 0 b p) (raised_kind 32 1 _ (byte_kind a 1 b p))) (raised_kind 32 2 _ (byte_kind a 2 b p))) (raised_kind 32 3 _ (byte_kind a 3 b p))
+    peek_kind a PeekU8 b p = byte_kind names a b.place p 0
+    peek_kind a PeekU16Le b p = number_ahead_kind names a b.place p 16 false
+    peek_kind a PeekU32Le b p = number_ahead_kind names a b.place p 32 false
 
     asked_kind : (a : ℕ) (question : Question) → may_ask question (type_at x (arg a)) ≡ true → has_question has reads question a ≡ true → IsNum S (asked_code names a question).code
     asked_kind a reader_length h g = let b = d.readers a h in two_kind Sub (end_code names a) (place_code names a) b.end b.place
@@ -424,7 +438,7 @@ module _ (S : CScope) where
     compared_with_kind a b h = rated_if (is_decided a b) (plus_zero_in a b.ty) (beside a b.ty) (plus_zero_in_kind a b.ty h) (beside_kind a b.ty h)
 
     left_compared_kind : (a b : Rated) → IsNum S a.code → IsNum S (left_compared a b).code
-    left_compared_kind a b h = rated_if (alike a.code b.code) (plus_zero_in a b.ty) (compared_with a b) (plus_zero_in_kind a b.ty h) (compared_with_kind a b h)
+    left_compared_kind a b h = rated_if (is_itself a.code b.code) (plus_zero_in a b.ty) (compared_with a b) (plus_zero_in_kind a b.ty h) (compared_with_kind a b h)
 
     settled_kind : (o : Option Bool) (e : ExprTree) → IsNum S e → IsNum S (settled_or o e)
     settled_kind None e h = h

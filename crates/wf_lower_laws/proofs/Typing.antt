@@ -3,6 +3,7 @@ use Rattle.std.proofs.Common.{◌≡◌, ◌⊎◌, inl, inr, ℕ, zero, suc, �
 use Rattle.std.specs.Prelude.{map, if◌then◌else◌, is_some, slice_get, codes, bytes_eq, option_and_then, option_map}
 use Rattle.std.specs.List.{list_all, AllByRecursion}
 use Rattle.std.proofs.lemmas.Bool.Decides.{nat_tests}
+use Rattle.std.proofs.lemmas.Slice.Eq.{bytes_eq-Decides}
 use Rattle.wf_text.specs.declared.place.Place.{Place}
 use Rattle.wf_base.specs.declared.base_methods.ReadForm.{ReadForm}
 use Rattle.wf_base.specs.declared.base_methods.ReadForm.TheVariants.{ReadU8, ReadU16Be, ReadU16Le, ReadU32Be, ReadU32Le, ReadU64Be, ReadU64Le}
@@ -33,15 +34,15 @@ use Rattle.wf_exprs.specs.Exprs.{bare, path_code, lowered_expr, lowered_slice, g
 use Rattle.wf_exprs.specs.Reads.{expr_reads, code_reads}
 use Rattle.wf_lower_stmts.specs.Forms.{Form, status_local, got_local, size_local, held_local, count_local, is_io, is_kept, local_code, saved_code, stays, holds_something, counts_bytes, keeps, place_in, end_of, when, put, get, save_locals, restore_locals, save_count, save_started, give, suspend, resume_here}
 use Rattle.wf_lower_stmts.specs.Lower.{lower, continues as continues_in, again_here, behind_here, other_kind, returns, ending, ending_of, has_result, tail_of, top}
-use Rattle.wf_lower_stmts.specs.Statements.{put_into, set_slice, set_value, step_on, next_byte, is_used_up, is_big_endian, with_byte, take_byte, take_bytes, written_byte, begun_call, awoken_call, slice_bits, bytes_for, least_size, move, lower_written, value_codes, values_codes, is_passed, receiver_code, callee_name, answer_local, is_wanted, call_into, hand_on, put_result, handed_call, plain_call, give_status, give_value, lower_point, lower_plain, lower_simple, is_suspension as is_held_back}
+use Rattle.wf_lower_stmts.specs.Statements.{put_into, set_slice, set_value, step_on, next_byte, is_used_up, is_big_endian, with_byte, take_byte, take_bytes, written_byte, are_all_there, take_all, begun_call, awoken_call, slice_bits, bytes_for, least_size, move, lower_written, value_codes, values_codes, is_passed, receiver_code, callee_name, answer_local, is_wanted, call_into, hand_on, put_result, handed_call, plain_call, give_status, give_value, lower_point, lower_plain, lower_simple, is_suspension as is_held_back}
 use Rattle.wf_lower.specs.Bodies.{params_of, result_of}
 use Rattle.wf_lower_laws.specs.KindLaw.{IsNum, IsPointer, IsText, Declares, KeepKinds, has_op, has_question, num_served, slice_served, end_served, status_served, cond_served}
 use Rattle.wf_lower_laws.proofs.Apart.{left_or, right_or}
 use Rattle.wf_lower_laws.proofs.Names.{both_hold}
-use Rattle.wf_lower_laws.proofs.ExprKinds.{expressions_keep_kinds, num_kind, taken_kind, two_kind, cast_kind, widened_kind, plus_kind, begins_kind}
+use Rattle.wf_lower_laws.proofs.ExprKinds.{expressions_keep_kinds, number_ahead_kind, num_kind, taken_kind, two_kind, cast_kind, widened_kind, plus_kind, begins_kind}
 use Rattle.wf_lower_laws.proofs.Frames.{same_bytes, is_variable, is_result_of}
 use Rattle.wf_lower_laws.proofs.Straight.{straight_reads, gets}
-use Rattle.wf_lower_laws.proofs.CodeTypes.{Fits, num_fits, text_fits, pointer_fits, Cell, NumCell, variable_num, CodeOk, ok_finish, ok_if, ok_assign, ok_number, ok_read, ok_leave, ok_branch, ok_when, ok_repeat, ok_jump, ok_empty, ok_case, ok_label, ok_call, ok_when_assigned, num_typed, num_counts, fits_typed}
+use Rattle.wf_lower_laws.proofs.CodeTypes.{Fits, num_fits, text_fits, pointer_fits, Cell, NumCell, variable_num, CodeOk, ok_finish, ok_if, ok_assign, ok_number, ok_read, ok_leave, ok_branch, ok_when, ok_repeat, ok_jump, ok_empty, ok_case, ok_label, ok_call, ok_when_assigned, Or, absorb, widen, num_typed, num_counts, fits_typed}
 
 -- ---- all that an expression uses is there
 
@@ -616,23 +617,60 @@ module _ (c : Checked) (f : Form) (Settled : List ℕ → Type 0) (CallOk : List
     reads_behind : (name : List ℕ) (k : ℕ) (rest : Code) → code_reads name rest ≡ true → code_reads name (resume_here k rest) ≡ true
     reads_behind name k rest h = h
 
-    begun_taken : (k : ℕ) (rest : Code) → code_reads (codes "held") rest ≡ true → code_reads (codes "count") rest ≡ true → Ok (resume_here k rest)
-        → Ok (c_tree.assign held_local (num 0) (c_tree.assign count_local (num 0) (resume_here k rest)))
-    begun_taken k rest h g ok =
-        ok_read c Settled CallOk (uint U64) (codes "held") (num 0) _ s.held_held (num_fits S (uint U64) (num 0) refl (num_kind S 0)) (reads_behind (codes "held") k rest h)
-        (ok_read c Settled CallOk (uint U8) (codes "count") (num 0) _ s.count_held (num_fits S (uint U8) (num 0) refl (num_kind S 0)) (reads_behind (codes "count") k rest g) ok)
+    -- A number whose bytes are all there. What is held and counted so is read behind it.
+    abbrev Holding : List ℕ → Type 0
+    Holding = Or (Or Settled (codes "held")) (codes "count")
+
+    all_ok : (a : ℕ) (form : ReadForm) → Buffer a → CodeOk c Holding CallOk (take_all f.names a form)
+    all_ok a form b =
+        let all = num (bytes_of (read_width form)) in
+        let place = place_num a b.ty b.cells in
+        let holds : Cell Holding S (uint U64) held_local = record { held = s.held_held; settled = λ name e. inl (inr ((bytes_eq-Decides name (codes "held")).0 e)) } in
+        let counts : Cell Holding S (uint U8) count_local = record { held = s.count_held; settled = λ name e. inr ((bytes_eq-Decides name (codes "count")).0 e) } in
+        let stands : NumCell Holding S (place_code f.names a) = record { type = b.cells.place.type; numeric = b.cells.place.numeric; cell = record { held = b.cells.place.cell.held; settled = λ name e. inl (inl (b.cells.place.cell.settled name e)) } } in
+        ok_assign c Holding CallOk (uint U64) held_local _ _ holds (num_fits S (uint U64) _ refl (number_ahead_kind S f.names a place b.cells.bytes (bits_of (read_width form)) (is_big_endian form)))
+        (ok_number c Holding CallOk (place_code f.names a) (two Add (place_code f.names a) all) _ stands (two_kind S Add (place_code f.names a) all place (num_kind S (bytes_of (read_width form))))
+        (ok_assign c Holding CallOk (uint U8) count_local all finish counts (num_fits S (uint U8) all refl (num_kind S (bytes_of (read_width form)))) (ok_finish c Holding CallOk)))
+
+    reads_after : (name : List ℕ) (test : ExprTree) (body rest : Code) → code_reads name rest ≡ true → code_reads name (when test body rest) ≡ true
+    reads_after name test body rest h = right_or (expr_reads name test) _ (right_or (code_reads name body) _ h)
+
+    all_when_ok : (a : ℕ) (form : ReadForm) (rest : Code) → Buffer a → code_reads (codes "held") rest ≡ true → code_reads (codes "count") rest ≡ true → Ok rest → Ok (when (are_all_there f.names a form) (take_all f.names a form) rest)
+    all_when_ok a form rest b h g ok =
+        let test = are_all_there f.names a form in
+        let body = take_all f.names a form in
+        absorb c Settled CallOk (codes "held") (when test body rest)
+        (absorb c (Or Settled (codes "held")) CallOk (codes "count") (when test body rest)
+        (ok_when c Holding CallOk test body rest
+        (num_typed c Settled CallOk test (two_kind S Ge (there f.names a) (num (bytes_of (read_width form))) (there_ok a b) (num_kind S (bytes_of (read_width form))))) (all_ok a form b)
+        (widen c (Or Settled (codes "held")) CallOk (codes "count") rest (widen c Settled CallOk (codes "held") rest ok))) (reads_after (codes "count") test body rest g)) (reads_after (codes "held") test body rest h)
+
+    begun_taken : (a : ℕ) (form : ReadForm) (rest : Code) → Buffer a → code_reads (codes "held") rest ≡ true → code_reads (codes "count") rest ≡ true → Ok rest
+        → Ok (c_tree.assign held_local (num 0) (c_tree.assign count_local (num 0) (when (are_all_there f.names a form) (take_all f.names a form) rest)))
+    begun_taken a form rest b h g ok =
+        ok_read c Settled CallOk (uint U64) (codes "held") (num 0) _ s.held_held (num_fits S (uint U64) (num 0) refl (num_kind S 0)) (reads_after (codes "held") (are_all_there f.names a form) (take_all f.names a form) rest h)
+        (ok_read c Settled CallOk (uint U8) (codes "count") (num 0) _ s.count_held (num_fits S (uint U8) (num 0) refl (num_kind S 0)) (reads_after (codes "count") (are_all_there f.names a form) (take_all f.names a form) rest g)
+        (all_when_ok a form rest b h g ok))
 
     resume_ok : (k : ℕ) (rest : Code) → Ok rest → Ok (resume_here k rest)
     resume_ok k rest ok = ok_when c Settled CallOk (num 0) _ rest (num_typed c Settled CallOk (num 0) (num_kind S 0)) (ok_case c Settled CallOk (Int k) _ (ok_empty c Settled CallOk finish done)) ok
 
-    point_call_ok : (k : ℕ) (t : Target) (a : ℕ) (call : Awaited) (rest : Code) → is_coroutine m.mark ≡ true → well_awaited x t a call ≡ true → Ok rest → Ok (begun_call f.names call (resume_here k (awoken_call f k t a call rest)))
+    point_number_ok : (k : ℕ) (t : Target) (a : ℕ) (form : ReadForm) (rest : Code) → is_coroutine m.mark ≡ true → well_awaited x t a (take_number form) ≡ true → Ok rest
+        → code_reads (codes "held") (awoken_call f k t a (take_number form) rest) ≡ true → code_reads (codes "count") (awoken_call f k t a (take_number form) rest) ≡ true
+        → Ok (c_tree.assign held_local (num 0) (c_tree.assign count_local (num 0) (when (are_all_there f.names a form) (take_all f.names a form) (resume_here k (awoken_call f k t a (take_number form) rest)))))
+    point_number_ok k t a form rest co w ok h g =
+        let behind = awoken_call f k t a (take_number form) rest in
+        begun_taken a form (resume_here k behind) (well_taken t a form held_local w held_num).0 (reads_behind (codes "held") k behind h) (reads_behind (codes "count") k behind g)
+        (resume_ok k behind (awoken_call_ok k t a (take_number form) rest co w ok))
+
+    point_call_ok : (k : ℕ) (t : Target) (a : ℕ) (call : Awaited) (rest : Code) → is_coroutine m.mark ≡ true → well_awaited x t a call ≡ true → Ok rest → Ok (begun_call f.names a call (resume_here k (awoken_call f k t a call rest)))
     point_call_ok k t a (take_number ReadU8) rest co w ok = resume_ok k _ (awoken_call_ok k t a (take_number ReadU8) rest co w ok)
-    point_call_ok k t a (take_number ReadU16Be) rest co w ok = begun_taken k _ refl refl (resume_ok k _ (awoken_call_ok k t a (take_number ReadU16Be) rest co w ok))
-    point_call_ok k t a (take_number ReadU16Le) rest co w ok = begun_taken k _ refl refl (resume_ok k _ (awoken_call_ok k t a (take_number ReadU16Le) rest co w ok))
-    point_call_ok k t a (take_number ReadU32Be) rest co w ok = begun_taken k _ refl refl (resume_ok k _ (awoken_call_ok k t a (take_number ReadU32Be) rest co w ok))
-    point_call_ok k t a (take_number ReadU32Le) rest co w ok = begun_taken k _ refl refl (resume_ok k _ (awoken_call_ok k t a (take_number ReadU32Le) rest co w ok))
-    point_call_ok k t a (take_number ReadU64Be) rest co w ok = begun_taken k _ refl refl (resume_ok k _ (awoken_call_ok k t a (take_number ReadU64Be) rest co w ok))
-    point_call_ok k t a (take_number ReadU64Le) rest co w ok = begun_taken k _ refl refl (resume_ok k _ (awoken_call_ok k t a (take_number ReadU64Le) rest co w ok))
+    point_call_ok k t a (take_number ReadU16Be) rest co w ok = point_number_ok k t a ReadU16Be rest co w ok refl refl
+    point_call_ok k t a (take_number ReadU16Le) rest co w ok = point_number_ok k t a ReadU16Le rest co w ok refl refl
+    point_call_ok k t a (take_number ReadU32Be) rest co w ok = point_number_ok k t a ReadU32Be rest co w ok refl refl
+    point_call_ok k t a (take_number ReadU32Le) rest co w ok = point_number_ok k t a ReadU32Le rest co w ok refl refl
+    point_call_ok k t a (take_number ReadU64Be) rest co w ok = point_number_ok k t a ReadU64Be rest co w ok refl refl
+    point_call_ok k t a (take_number ReadU64Le) rest co w ok = point_number_ok k t a ReadU64Le rest co w ok refl refl
     point_call_ok k t a (skip n) rest co w ok =
         let p = both_true (is_reader (type_at x (arg a))) _ w in
         let q = both_true (has_none t) _ p.1 in
