@@ -1,5 +1,5 @@
 -- What is asked of a reader or a writer.
-use Rattle.std.proofs.Common.{◌≡◌, ℕ, zero, suc, ◌+◌, ◌-◌, ◌*◌, ◌/◌, ◌^◌, ◌<◌, ◌≤◌, Bool, true, false, nat_eq, List, [], ◌∷◌, Option, Some, None, refl, ap, ◌∙◌, subst, arith, length, take, drop, get_or, min}
+use Rattle.std.proofs.Common.{◌≡◌, ℕ, zero, suc, ◌+◌, ◌-◌, ◌*◌, ◌/◌, ◌^◌, ◌<◌, ◌≤◌, Bool, true, false, nat_eq, List, [], ◌∷◌, Option, Some, None, refl, sym, ap, ◌∙◌, subst, arith, length, take, drop, get_or, min}
 use Rattle.std.specs.Prelude.{if◌then◌else◌, option_and_then, codes}
 use Rattle.std.proofs.Math.Pow.{pow_mono}
 use Rattle.std.proofs.lemmas.Nat.{mul-le, pow-add, pow_pos}
@@ -250,9 +250,9 @@ module _ (names : Names) (x : Surroundings) (a : ℕ) (b : Buffer) (lawful : IsL
         let n = byte_of b (b.ri + place 1) * 2 ^ 8 in
         let fits = up_to-fits 2 two_there in
         let type = common-first ty in
-        let small : m + n < c_limit (common Int ty) = rw type (omega (arith, fits)) in
-        let both = sum-number x false lowest second Int ty m n (peeked-number (place 0) (place-within 0 (omega (arith, two_there)))) (byte-moved 1 (omega (arith, two_there))) small in
         let value : m + n ≡ bytes_up_to 2 = omega arith in
+        let small : m + n < c_limit (common Int ty) = subst (λ t. m + n < c_limit t) (sym type) (omega (arith, fits, value)) in
+        let both = sum-number x false lowest second Int ty m n (peeked-number (place 0) (place-within 0 (omega (arith, two_there)))) (byte-moved 1 (omega (arith, two_there))) small in
         let number : 2 ≡ k = omega (arith, e) in
         subst (λ k. IsNumber x (operation Add lowest second no_operand) ty (bytes_up_to k)) number
         (subst (λ v. IsNumber x (operation Add lowest second no_operand) ty v) value (subst (λ t. IsNumber x (operation Add lowest second no_operand) t (m + n)) type both))
@@ -261,7 +261,7 @@ module _ (names : Names) (x : Surroundings) (a : ℕ) (b : Buffer) (lawful : IsL
         let within : j < bits / 8 = omega (arith, e, h) in
         let fits = up_to-fits (suc j) (omega (arith, within)) in
         let type = common-both ty in
-        let small : bytes_up_to j + byte_of b (b.ri + place j) * 2 ^ (8 * j) < c_limit (common ty ty) = rw type fits in
+        let small : bytes_up_to j + byte_of b (b.ri + place j) * 2 ^ (8 * j) < c_limit (common ty ty) = subst (λ t. bytes_up_to (suc j) < c_limit t) (sym type) fits in
         let all = sum-number x true (operation Add lowest second (bytes_ahead names a bits big 2 n)) (byte_ahead names a bits big j) ty ty (bytes_up_to j) (byte_of b (b.ri + place j) * 2 ^ (8 * j))
         (bytes-number n j refl (omega (arith, within))) (byte-moved j within) small in
         let number : suc j ≡ k = omega (arith, e) in
