@@ -33,7 +33,7 @@ use Rattle.wf_exprs.specs.Words.{of_self}
 use Rattle.wf_exprs.specs.Scopes.{ScopeTree, are_named, path_of}
 use Rattle.wf_lower_stmts.specs.Forms.{Form, form_of, stays, holds_something, counts_bytes, awaits, keeps, size_local, place_in, end_of, put, get}
 use Rattle.wf_lower_stmts.specs.Lower.{is_return, returns}
-use Rattle.wf_lower_stmts.specs.Statements.{is_passed, target_code, is_wanted, set_slice}
+use Rattle.wf_lower_stmts.specs.Statements.{is_passed, target_code, is_wanted, set_place, set_slice}
 use Rattle.wf_lower_stmts.specs.declared.places.Picked.{Picked}
 use Rattle.wf_lower_stmts.specs.declared.places.Picked.TheVariants as picked
 use Rattle.wf_lower_stmts.specs.declared.places.Way.{Way}
@@ -241,4 +241,5 @@ is_target nodes t = true
 
 -- A slice goes to a local.
 abbrev pub set_local : Names → (n : ℕ) → Pair → (rest : Code) → Code
-set_local names n it rest = assign size_local it.length.code (assign (variable (local_pointer names n)) it.pointer (assign (variable (local_length names n)) size_local rest))
+set_local names n it rest =
+    assign size_local it.length.code (set_place (variable (local_pointer names n)) it.pointer (assign (variable (local_length names n)) size_local rest))

@@ -18,7 +18,7 @@ use Rattle.c_text.specs.CTree.{ExprTree, variable, element, unary, cast, Code, f
 use Rattle.c_text.specs.CTree as c
 use Rattle.wf_exprs.specs.Names.{Names, local_pointer, local_length, field_name, body_name, entry_name, again_label, behind_label}
 use Rattle.wf_exprs.specs.Words.{num, uint_of, two, self, of_self, args}
-use Rattle.wf_exprs.specs.Exprs.{Pair, path_code, lowered_expr, lowered_slice, given, lowered_status, lowered_cond, status_constant, widened, begins_with, io_code, place_code, end_code, bytes_code, there, number_ahead}
+use Rattle.wf_exprs.specs.Exprs.{Pair, path_code, is_itself, lowered_expr, lowered_slice, given, lowered_status, lowered_cond, status_constant, widened, begins_with, io_code, place_code, end_code, bytes_code, there, number_ahead}
 use Rattle.wf_lower_stmts.specs.Forms.{Form, status_local, got_local, size_local, held_local, count_local, stays, when, put, get, give, suspend, resume_here}
 
 -- Targets. What stands in C for one that takes a single value.
@@ -37,16 +37,27 @@ put_into names target value rest = by_target (target_code names target)
     by_target None = rest
     by_target (Some place) = c.assign place value rest
 
+-- Nothing is assigned to itself, since compilers remark on it: a slice that is made shorter keeps its pointer.
+abbrev pub set_place : (place value : ExprTree) → (rest : Code) → Code
+set_place place value rest = if is_itself place value then rest else c.assign place value rest
+
+abbrev pub set_single : Names → Target → (value : ExprTree) → (rest : Code) → Code
+set_single names target value rest = by_target (target_code names target)
+  where
+    by_target : Option ExprTree → Code
+    by_target None = rest
+    by_target (Some place) = set_place place value rest
+
 -- A slice is assigned as two values. Its length is put aside first, since the new pointer may ask for the old length.
 abbrev pub set_slice : Names → Target → Pair → (rest : Code) → Code
 set_slice names (to_slice at bits (local n)) it rest =
-    c.assign size_local it.length.code (c.assign (variable (local_pointer names n)) it.pointer (c.assign (variable (local_length names n)) size_local rest))
+    c.assign size_local it.length.code (set_place (variable (local_pointer names n)) it.pointer (c.assign (variable (local_length names n)) size_local rest))
 set_slice names target it rest = rest
 
 abbrev pub set_value : Names → Target → ValueTree → (rest : Code) → Code
-set_value names target (numeric t) rest = put_into names target (given names t) rest
-set_value names target (logical t) rest = put_into names target (lowered_cond names t) rest
-set_value names target (state t) rest = put_into names target (lowered_status names t) rest
+set_value names target (numeric t) rest = set_single names target (given names t) rest
+set_value names target (logical t) rest = set_single names target (lowered_cond names t) rest
+set_value names target (state t) rest = set_single names target (lowered_status names t) rest
 set_value names target (elements t) rest = set_slice names target (lowered_slice names t) rest
 set_value names target value rest = rest
 

@@ -17,13 +17,14 @@ ghost use Rattle.wf_exprs_nodes.specs.Trees.{is_single, lowered_value};
 ghost use Rattle.wf_lower_stmts.specs.declared.targets.Target.TheVariants as targets;
 ghost use Rattle.wf_lower_stmts.specs.BodyNodes.{AreAlike, form_in, is_target, set_local, target_in};
 ghost use Rattle.wf_lower_stmts.specs.Forms.{size_local};
-ghost use Rattle.wf_lower_stmts.specs.Statements.{is_wanted as is_wanted_target, put_into as put_into_code, set_slice as set_slice_code, set_value as set_value_code};
+ghost use Rattle.wf_lower_stmts.specs.Statements.{is_wanted as is_wanted_target, put_into as put_into_code, set_place as set_place_code, set_single as set_single_code, set_slice as set_slice_code, set_value as set_value_code};
 
 use crate::body::Body;
 use crate::code::assign;
 use crate::walks::type_at;
 use c_text::{CExprId, CStmtId, Unit};
 use wf_ast::{Expr, ExprId, Ty};
+use wf_exprs::alike::is_itself;
 use wf_exprs::nodes::{element, variable};
 use wf_exprs::{Pair, Path};
 use wf_exprs_nodes::{lower_expr, lower_slice, number};
@@ -154,6 +155,54 @@ pub fn put_into(
     }
 }
 
+/// `place = value;`, or nothing where that is the place itself: compilers remark on it.
+fn set_place(
+    u: &mut Unit,
+    place: CExprId,
+    value: CExprId,
+    rest: CStmtId,
+) -> Result<CStmtId, NoMemory>
+    requires place { place.0 < length u.old.exprs }
+    requires value { value.0 < length u.old.exprs }
+    requires rest { rest.0 < length u.old.stmts }
+    ensures grows { Grows u.old u.new }
+    ensures made { IfOk result (λ it. HasCode u.new it.0 (set_place_code (expr_of u.old place.0) (expr_of u.old value.0) (code_of u.old rest.0))) }
+{
+    if is_itself(u, place, value) {
+        Ok(rest)
+    } else {
+        assign(u, place, value, rest)
+    }
+}
+
+/// What a target that takes a single value is set to, where it isn't what stands there.
+fn put_single(
+    b: &Body,
+    u: &mut Unit,
+    target: Target,
+    value: CExprId,
+    rest: CStmtId,
+) -> Result<CStmtId, NoMemory>
+    requires target { is_target b.now.nodes target ≡ true }
+    requires value { value.0 < length u.old.exprs }
+    requires rest { rest.0 < length u.old.stmts }
+    ensures grows { Grows u.old u.new }
+    ensures made { IfOk result (λ it. HasCode u.new it.0 (set_single_code (form_in b.now).names (target_in b.now.nodes target) (expr_of u.old value.0) (code_of u.old rest.0))) }
+{
+    match target {
+        Target::Variable(path) => {
+            let there = b.scope().path(u, path)?;
+            set_place(u, there, value, rest)
+        }
+        Target::Element { base, at } => {
+            let there = element_of(b, u, base, at)?;
+            set_place(u, there, value, rest)
+        }
+        Target::Slice(_) => Ok(rest),
+        Target::Nothing => Ok(rest),
+    }
+}
+
 /// `size = count;`
 #[tactic(auto, unfolding(c_text::specs::CSpelling::is_reserved))]
 pub fn set_size(u: &mut Unit, count: CExprId, rest: CStmtId) -> Result<CStmtId, NoMemory>
@@ -178,7 +227,7 @@ fn set_length(b: &Body, u: &mut Unit, n: u32, rest: CStmtId) -> Result<CStmtId, 
     assign(u, there, size, rest)
 }
 
-/// `vp_t = pointer;`
+/// `vp_t = pointer;`, where that is another pointer.
 fn set_pointer(
     b: &Body,
     u: &mut Unit,
@@ -189,10 +238,10 @@ fn set_pointer(
     requires pointer { pointer.0 < length u.old.exprs }
     requires rest { rest.0 < length u.old.stmts }
     ensures grows { Grows u.old u.new }
-    ensures made { IfOk result (λ it. HasCode u.new it.0 (c.assign (c.variable (local_pointer (form_in b.now).names n)) (expr_of u.old pointer.0) (code_of u.old rest.0))) }
+    ensures made { IfOk result (λ it. HasCode u.new it.0 (set_place_code (c.variable (local_pointer (form_in b.now).names n)) (expr_of u.old pointer.0) (code_of u.old rest.0))) }
 {
     let there = b.scope().local_pointer(u, n)?;
-    assign(u, there, pointer, rest)
+    set_place(u, there, pointer, rest)
 }
 
 /// A slice goes to a local. Its length is put aside first, since the new pointer may ask for the old length.
@@ -268,10 +317,10 @@ fn set_single(
     requires single { IsTrue (is_single (type_of_node b.now.nodes value.0)) }
     requires rest { rest.0 < length u.old.stmts }
     ensures grows { Grows u.old u.new }
-    ensures made { IfOk result (λ it. HasCode u.new it.0 (put_into_code (form_in b.now).names (target_in b.now.nodes target) (lowered_value (form_in b.now).names (tree_of b.now.nodes value)) (code_of u.old rest.0))) }
+    ensures made { IfOk result (λ it. HasCode u.new it.0 (set_single_code (form_in b.now).names (target_in b.now.nodes target) (lowered_value (form_in b.now).names (tree_of b.now.nodes value)) (code_of u.old rest.0))) }
 {
     let single = lower_expr(b.scope(), u, value)?;
-    put_into(b, u, target, single, rest)
+    put_single(b, u, target, single, rest)
 }
 
 /// A value of any kind goes to a target.
