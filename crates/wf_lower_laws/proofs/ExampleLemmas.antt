@@ -1,8 +1,9 @@
 -- The worked example of the laws of expressions: everything computes, but for which number of a status has which name.
-use Rattle.std.proofs.Common.{◌≡◌, inr, ℕ, zero, suc, ◌/◌, ◌%◌, ◌<◌, ◌≤◌, Bool, true, false, List, [], ◌∷◌, length, Option, Some, None, refl, sym, ap, subst, arith, rules, ◌^◌, ◌∙◌}
-use Rattle.std.specs.Prelude.{if◌then◌else◌, ◌==◌, find, slice_get, bytes_eq, codes, is_some, option_and_then, map, nat_eq, nat_lt, ◌++◌, ◌+◌}
-use Rattle.std.specs.Fmt.{decimal, digits, digits_onto, digit_glyph}
+use Rattle.std.proofs.Common.{◌≡◌, inr, ℕ, zero, suc, ◌<◌, Bool, true, false, List, [], ◌∷◌, length, Option, Some, None, refl, sym, subst, arith, rules, ◌^◌, ◌∙◌}
+use Rattle.std.specs.Prelude.{if◌then◌else◌, find, slice_get, bytes_eq, codes, is_some, option_and_then, map, nat_eq, ◌++◌}
+use Rattle.std.specs.Fmt.{decimal, digits}
 use Rattle.std.proofs.lemmas.Bool.Decides.{nat_tests}
+use Rattle.std.proofs.lemmas.Fmt.{decimal_digit}
 use Rattle.std.proofs.lemmas.List.Elements.{All-from_recursion}
 use Rattle.std.proofs.lemmas.Slice.Eq.{bytes_eq-Decides}
 use Rattle.wf_num.specs.declared.c_arithmetic.CTy.TheVariants.{Int, U64}
@@ -26,6 +27,7 @@ use Rattle.wf_exprs_laws.proofs.Law.{expr_law}
 use Rattle.wf_lower.specs.Unit.{lowered_unit}
 use Rattle.wf_lower_laws.specs.KindLaw.{IsText, IsBuffer, Declares}
 use Rattle.wf_lower_laws.specs.Examples.{length_asked, left, gauge, in_left, names, four_bytes, seen, left_body, before_call, handed, in_body, running_left, inside, no_helpers, bad_receiver_alone, no_bytes}
+use Rattle.wf_lower_laws.proofs.Digits.{only_digit}
 use Rattle.wf_lower_laws.proofs.Names.{after_prefix}
 
 pub typed : well_method gauge left ≡ true
@@ -43,39 +45,6 @@ unfolding lowered_unit digits
 begins = refl
 
 -- ---- statuses
-
-longer : (k n : ℕ) (done : List ℕ) → length done ≤ length (digits_onto k 10 false n done)
-longer zero n done = omega arith
-longer (suc k) n done = by (n / 10 == 0) (longer k (n / 10) (digit_glyph false (n % 10) ∷ done))
-  where
-    by : (b : Bool) → length (digit_glyph false (n % 10) ∷ done) ≤ length (digits_onto k 10 false (n / 10) (digit_glyph false (n % 10) ∷ done))
-        → length done ≤ length (if b then digit_glyph false (n % 10) ∷ done else digits_onto k 10 false (n / 10) (digit_glyph false (n % 10) ∷ done))
-    by true h = omega arith
-    by false h = omega (arith, h)
-
-longer_still : (k n : ℕ) (done : List ℕ) → length done < length (digits_onto (suc k) 10 false n done)
-longer_still k n done = by (n / 10 == 0) (longer k (n / 10) (digit_glyph false (n % 10) ∷ done))
-  where
-    by : (b : Bool) → length (digit_glyph false (n % 10) ∷ done) ≤ length (digits_onto k 10 false (n / 10) (digit_glyph false (n % 10) ∷ done))
-        → length done < length (if b then digit_glyph false (n % 10) ∷ done else digits_onto k 10 false (n / 10) (digit_glyph false (n % 10) ∷ done))
-    by true h = omega arith
-    by false h = omega (arith, h)
-
-spelt_four : (n : ℕ) → n / 10 ≡ 0 → digit_glyph false (n % 10) ≡ 52 → n ≡ 4
-spelt_four n small own = by (nat_lt (n % 10) 10) own
-  where
-    by : (b : Bool) → (if b then 48 + n % 10 else 87 + n % 10) ≡ 52 → n ≡ 4
-    by true k = omega (arith, small, k)
-    by false k = absurd (omega (arith, k))
-
--- A number that is spelt as 4 is 4, however large it may be.
-only_four : (n : ℕ) → decimal n ≡ decimal 4 → n ≡ 4
-unfolding digits
-only_four n h = by (n / 10 == 0) refl h
-  where
-    by : (b : Bool) → (n / 10 == 0) ≡ b → (if b then digit_glyph false (n % 10) ∷ [] else digits_onto 63 10 false (n / 10) (digit_glyph false (n % 10) ∷ [])) ≡ 52 ∷ [] → n ≡ 4
-    by true e k = spelt_four n (grind (arith, nat_tests, e)) (cc k)
-    by false e k = absurd (omega (arith, longer_still 62 (n / 10) (digit_glyph false (n % 10) ∷ []), ap (λ (xs : List ℕ). length xs) k))
 
 abbrev only_text : TextDecl
 only_text = record { name = status_name 4; bytes = codes "#base: bad receiver" }
@@ -102,7 +71,7 @@ is_four : (n : ℕ) → is_some (value inside (variable (status_name n))) ≡ tr
 is_four n h = by (bytes_eq (status_name 4) (status_name n)) refl
   where
     by : (b : Bool) → bytes_eq (status_name 4) (status_name n) ≡ b → n ≡ 4
-    by true e = only_four n (sym (after_prefix (codes "status_") (decimal 4) (decimal n) ((bytes_eq-Decides (status_name 4) (status_name n)).0 e)))
+    by true e = only_digit 4 n (omega arith) (sym (after_prefix (codes "status_") (decimal 4) (decimal n) ((bytes_eq-Decides (status_name 4) (status_name n)).0 e)) ∙ decimal_digit 4 (omega arith))
     by false e =
         let P : List TextDecl → Type 0 = λ ts. find (λ it. bytes_eq it.name (status_name n)) ts ≡ None in
         absurd (not_some (value inside (variable (status_name n))) (no_value inside n (no_local n) (subst P (sym texts_are) (no_text n e))) h)

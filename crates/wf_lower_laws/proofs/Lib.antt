@@ -6,6 +6,7 @@ pub mod Cases
 pub mod CodeBrackets
 pub mod CodeTypes
 pub mod Control
+pub mod Digits
 pub mod EntryTypes
 pub mod ExampleLemmas
 pub mod Everywhere
@@ -29,6 +30,8 @@ pub mod Labels
 pub mod Loops
 pub mod Markers
 pub mod MethodScope
+pub mod MixerLemmas
+pub mod MixerValues
 pub mod NameLaw
 pub mod Names
 pub mod Numbers

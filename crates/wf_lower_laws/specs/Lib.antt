@@ -13,3 +13,4 @@ pub mod SurfaceLaw
 pub mod FieldLaw
 pub mod TypeLaw
 pub mod Examples
+pub mod MixerExample
