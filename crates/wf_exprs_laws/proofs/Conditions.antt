@@ -20,12 +20,15 @@ use Rattle.c_text.specs.declared.kinds.COp.TheVariants.{Eq, Ne, Both, Either}
 use Rattle.c_text.specs.declared.kinds.CUnary.TheVariants.{Not}
 use Rattle.c_text.specs.CTree.{uint, size, boolean, uint_pointer, struct_pointer, text, ExprTree, variable, unary}
 use Rattle.c_text.specs.CTree as tree
+use Rattle.c_meaning.specs.declared.cells.Cell.TheVariants.{Num as num_cell}
+use Rattle.c_meaning.specs.declared.cells.CellType.TheVariants.{Flag as flag_cell}
+use Rattle.c_meaning.specs.declared.values.Number.{Number}
 use Rattle.c_meaning.specs.declared.values.Pointer.{Pointer}
 use Rattle.c_meaning.specs.declared.values.CValue.{CValue}
 use Rattle.c_meaning.specs.declared.values.CValue.TheVariants.{Numeric as numeric, Address as address, NullPointer as null_pointer}
 use Rattle.c_meaning.specs.CValues.{number, holds, negated, same_pointer}
 use Rattle.c_meaning.specs.CValues as values
-use Rattle.c_meaning.specs.CMemory.{Memory, loaded, offset}
+use Rattle.c_meaning.specs.CMemory.{Memory, cell_of, loaded, offset}
 use Rattle.c_meaning.specs.CTypes.{cell, object, byte, ExprType, numbers, points_to, zero_literal, Held, one, fixed, many, inner, character, characters, held_type, assignable, type_of}
 use Rattle.c_meaning.specs.CExprs.{Surroundings, held_value, combined, truth_value, and_also, or_else}
 use Rattle.c_meaning.specs.CExprs as c
@@ -38,24 +41,30 @@ use Rattle.wf_exprs_laws.proofs.Operands.{IsNumber, literal-number, zero-number,
 use Rattle.wf_exprs_laws.proofs.Buffers.{buffer-some, reader-type}
 use Rattle.wf_exprs_laws.proofs.Trees.{came, mapped, comparand-number, compared_with-number, left_compared-number}
 
--- An expression of C holds or doesn't, as a truth value says.
+-- An expression of C holds or doesn't, as a truth value says, and is 1 or 0 in a flag's cell.
 pub record CondGives (x : Surroundings) (e : ExprTree) (b : Bool) : Type 0 where
   pub at : CValue
   pub value : c.value x e ≡ Some at
   pub is : holds at ≡ b
+  pub stored : cell_of flag_cell at ≡ Some (num_cell (if b then 1 else 0))
+
+-- Every number is stored so.
+stored-number : (n : Number) (b : Bool) → holds (numeric n) ≡ b → cell_of flag_cell (numeric n) ≡ Some (num_cell (if b then 1 else 0))
+stored-number n b h = ap (λ b. Some (num_cell (if b then 1 else 0))) h
 
 holds-truth : (b : Bool) → holds (numeric (values.truth b)) ≡ b
 holds-truth true = refl
 holds-truth false = refl
 
 truth-cond : (x : Surroundings) (e : ExprTree) (t b : Bool) → c.value x e ≡ Some (numeric (values.truth t)) → t ≡ b → CondGives x e b
-truth-cond x e t b h same = record { at = numeric (values.truth t); value = h; is = holds-truth t ∙ same }
+truth-cond x e t b h same = record { at = numeric (values.truth t); value = h; is = holds-truth t ∙ same; stored = stored-number (values.truth t) b (holds-truth t ∙ same) }
 
 not-cond : (x : Surroundings) (e : ExprTree) (b : Bool) → CondGives x e b → CondGives x (unary Not e) (not b)
 not-cond x e b g = record {
   at = numeric (negated g.at);
   value = ap (option_map (λ v. numeric (negated v))) g.value;
   is = holds-truth (not (holds g.at)) ∙ ap not g.is;
+  stored = stored-number (negated g.at) (not b) (holds-truth (not (holds g.at)) ∙ ap not g.is);
 }
 
 not-not : (b : Bool) → not (not b) ≡ b
@@ -130,8 +139,8 @@ settled-value x equal e f a b m n h g t k = absurd (cc k)
 settled-value x differs e f a b m n h g t k = absurd (cc k)
 
 number-cond : (x : Surroundings) (b : Bool) → CondGives x (num (if b then 1 else 0)) b
-number-cond x true = record { at = numeric (number Int 1); value = refl; is = refl }
-number-cond x false = record { at = numeric (number Int 0); value = refl; is = refl }
+number-cond x true = record { at = numeric (number Int 1); value = refl; is = refl; stored = refl }
+number-cond x false = record { at = numeric (number Int 0); value = refl; is = refl; stored = refl }
 
 settled-cond : (x : Surroundings) (o : Option Bool) (e : ExprTree) (t : Bool) → ((met : Bool) → o ≡ Some met → t ≡ met) → CondGives x e t → CondGives x (settled_or o e) t
 settled-cond x (Some met) e t h g = subst (λ b. CondGives x (num (if met then 1 else 0)) b) (sym (h met refl)) (number-cond x met)
@@ -389,8 +398,8 @@ module _ (p : PackageTree) (m : MethodTree) (s : State) (x : Surroundings) (st :
   held-cond false a b n k n_is k_is g h = two-cond (lowered_status (names_of p m) a) (lowered_status (names_of p m) b) n k n_is k_is g h
 
   truth-literal : (b : Bool) → CondGives x (num (if b then 1 else 0)) b
-  truth-literal true = record { at = numeric (number Int 1); value = refl; is = refl }
-  truth-literal false = record { at = numeric (number Int 0); value = refl; is = refl }
+  truth-literal true = record { at = numeric (number Int 1); value = refl; is = refl; stored = refl }
+  truth-literal false = record { at = numeric (number Int 0); value = refl; is = refl; stored = refl }
 
   constant-is : (t : StatusTree) (n : ℕ) → is_constant t ≡ true → status_value s t ≡ Some n → constant_number t ≡ n
   constant-is (status at k) n c e = cc e
@@ -465,7 +474,7 @@ module _ (p : PackageTree) (m : MethodTree) (s : State) (x : Surroundings) (st :
       (some-cond x e (two Eq (num mark) (tree.element e (num 0))) t.at (nat_eq mark b.0) at second)
 
   zero-marked : (mark : ℕ) → CondGives x (begins_with mark (status_constant 0)) false
-  zero-marked mark = record { at = numeric (number Int 0); value = refl; is = refl }
+  zero-marked mark = record { at = numeric (number Int 0); value = refl; is = refl; stored = refl }
 
   marked : (category : Category) (mark : ℕ) → IsMark category mark → (t : StatusTree) (n : ℕ) → DeclaresStatus x t → well_status (record { within = p; method = m }) t ≡ true → status_value s t ≡ Some n
       → CondGives x (begins_with mark (lowered_status (names_of p m) t)) (same_category category (category_of (s.status_text n)))
@@ -496,8 +505,8 @@ module _ (p : PackageTree) (m : MethodTree) (s : State) (x : Surroundings) (st :
   category-cond Fault t n u h e = marked Fault 35 (record { code = λ e. refl; few = omega arith; not_fine = refl; by = fault-by }) t n u h e
 
   flag-cond : (e : ExprTree) (b : Bool) → GivesNumber x e Int (if b then 1 else 0) → CondGives x e b
-  flag-cond e true g = record { at = numeric (number Int 1); value = g.value; is = refl }
-  flag-cond e false g = record { at = numeric (number Int 0); value = g.value; is = refl }
+  flag-cond e true g = record { at = numeric (number Int 1); value = g.value; is = refl; stored = refl }
+  flag-cond e false g = record { at = numeric (number Int 0); value = g.value; is = refl; stored = refl }
 
   compare-cond : (op : Order) (a b : NumTree) (t : Bool) → Declares (names_of p m) s x a × Declares (names_of p m) s x b → (well_num (record { within = p; method = m }) a && well_num (record { within = p; method = m }) b) ≡ true
       → option_and_then (λ k. option_map (compares op k) (value s b)) (value s a) ≡ Some t

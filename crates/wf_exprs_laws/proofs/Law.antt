@@ -25,6 +25,7 @@ expr_law = record {
       (record { at = g.at; is_pointer = g.is_pointer; counts = g.counts.gives; stands = g.stands }, in-type _ cells.count g.counts.small);
   statuses = λ p m s x st t n u h e. (status-gives p m s x st t n u h e).1;
   conditions = λ p m s x st t b u h e. let g = conditions p m s x st t b u h e in (g.at, (g.value, g.is));
+  flags = λ p m s x st t b u h e. (let g = conditions p m s x st t b u h e in rw g.value g.stored);
 }
 
 -- A number is stored as it is.

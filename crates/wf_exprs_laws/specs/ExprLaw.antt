@@ -16,6 +16,7 @@ use Rattle.wf_ast.specs.Value.{Span, State, io_buffer, element_of, value, span_o
 use Rattle.wf_ast.specs.WellTyped.{type_at, variable_at, is_width, is_number, is_array, is_slice, is_flag, is_status, well_part, well_slice, well_cond, well_status, element_type}
 use Rattle.c_text.specs.CTree.{ExprTree, member, text}
 use Rattle.c_meaning.specs.declared.cells.Cell.TheVariants.{Num as num}
+use Rattle.c_meaning.specs.declared.cells.CellType.TheVariants.{Flag as flag_cell}
 use Rattle.c_meaning.specs.declared.values.Pointer.{Pointer}
 use Rattle.c_meaning.specs.declared.values.CValue.{CValue}
 use Rattle.c_meaning.specs.declared.values.CValue.TheVariants.{Numeric as numeric, Address as address, NullPointer as null_pointer}
@@ -225,6 +226,10 @@ pub record IsExprLaw : Type 0 where
   pub conditions : (p : PackageTree) (m : MethodTree) (s : State) (x : Surroundings) → Stands p m s x
       → (t : CondTree) (b : Bool) → DeclaresCond (names_of p m) s x t → well_cond (record { within = p; method = m }) t ≡ true → truth_of s t ≡ Some b
       → (v : CValue) × ((c.value x (lowered_cond (names_of p m) t) ≡ Some v) × (holds v ≡ b))
+  -- what is in a flag's cell once a condition was assigned to it
+  pub flags : (p : PackageTree) (m : MethodTree) (s : State) (x : Surroundings) → Stands p m s x
+      → (t : CondTree) (b : Bool) → DeclaresCond (names_of p m) s x t → well_cond (record { within = p; method = m }) t ≡ true → truth_of s t ≡ Some b
+      → option_and_then (cell_of flag_cell) (c.value x (lowered_cond (names_of p m) t)) ≡ Some (num (if b then 1 else 0))
 
 -- What is in a cell once a number was assigned to it: the number, where the cell's width holds it.
 abbrev pub IsStored : Type 0

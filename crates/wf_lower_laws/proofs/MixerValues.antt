@@ -65,9 +65,7 @@ negation_gives = expr_law.conditions mixer mix seen inside stands goes_silent fa
 -- ---- what the flag's cell has once they are assigned to it
 
 pub kept_true : option_and_then (cell_of flag) (value inside (lowered_cond names stays_loud)) ≡ Some (num 1)
-unfolding digits
-kept_true = refl
+kept_true = expr_law.flags mixer mix seen inside stands stays_loud true ((tt, ((tt, tt), tt)), (tt, five_there)) refl refl
 
 pub kept_false : option_and_then (cell_of flag) (value inside (lowered_cond names goes_silent)) ≡ Some (num 0)
-unfolding digits
-kept_false = refl
+kept_false = expr_law.flags mixer mix seen inside stands goes_silent false ((tt, ((tt, tt), tt)), (tt, five_there)) refl refl
