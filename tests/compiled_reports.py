@@ -420,6 +420,30 @@ pub func s.f!(w: base.io_writer, g: slice base.u8, h: slice base.u8, i: base.u64
     return this.n ~mod+ v
 }
 """, ["bytes x 010203", "bytes y 0405", "call p.f w=b g=x h=y i=1", "show x", "show b", "call p.f w=b g=null h=null i=0", "call p.f w=b g=y h=x i=3", "show y", "show b"]),
+    "a slice that is made shorter where it stands": ("""\
+pub struct s?(
+    n : base.u64,
+)
+pub func s.f!(g: slice base.u8) base.u64 {
+    var l : slice base.u8
+    var i : base.u64
+    l = args.g
+    if l.length() >= 4 {
+        l = l[.. 4]
+    }
+    while i < l.length() {
+        this.n ~mod+= l[i] as base.u64
+        i ~mod+= 1
+    } endwhile
+    if l.length() >= 2 {
+        l = l[.. 2]
+    }
+    return l.length()
+}
+pub func s.n() base.u64 {
+    return this.n
+}
+""", ["bytes x 010203040506", "bytes y 0708", "call p.f g=x", "call p.n", "call p.f g=y", "call p.f g=null", "call p.n"]),
     "a result without a return": ("""\
 pub struct s?(
     n : base.u8,
