@@ -48,7 +48,6 @@ FURTHER_BUILDS = [["gcc", "-O2"], ["gcc", "-O3"], ["clang", "-O2"]]
 # comparison that is never met, or after a statement that never goes on.
 TRUE_REMARKS = {
     "tautological-overlap-compare": "a variable can't be equal to two constants, or is unequal to one of them",
-    "self-assign": "a variable is assigned to itself",
     "array-bounds": "an index past an array never runs",
     "div-by-zero": "a division by 0 never runs",
     "shift-count-overflow": "a shift too far never runs",
@@ -420,6 +419,49 @@ pub func s.f!(w: base.io_writer, g: slice base.u8, h: slice base.u8, i: base.u64
     return this.n ~mod+ v
 }
 """, ["bytes x 010203", "bytes y 0405", "call p.f w=b g=x h=y i=1", "show x", "show b", "call p.f w=b g=null h=null i=0", "call p.f w=b g=y h=x i=3", "show y", "show b"]),
+    "what is assigned to itself": ("""\
+pub status "#a"
+pub struct s?(
+    a : array[4] base.u8,
+    n : base.u32,
+    b : base.bool,
+    t : base.status,
+)
+pub func s.f!(i: base.u8[..= 3], x: base.u32[..= 255], g: slice base.u8) base.u32 {
+    var m : base.u32[..= 255]
+    var d : base.bool
+    var t : base.status
+    var l : slice base.u8
+    m = args.x
+    m = m
+    m = (m as base.u8) as base.u32
+    d = m > 3
+    d = d
+    t = "#a"
+    t = t
+    l = args.g
+    l = l
+    l = l[..]
+    this.n = this.n
+    this.b = d
+    this.b = this.b
+    this.t = t
+    this.t = this.t
+    this.a[args.i] = m as base.u8
+    this.a[args.i] = this.a[args.i]
+    if l.length() > 2 {
+        l[1] = l[1]
+        l = l[.. 2]
+    }
+    if m == ((m as base.u8) as base.u32) {
+        this.n ~mod+= 1
+    }
+    if this.b and (this.t == t) {
+        return (this.a[args.i] as base.u32) ~mod+ this.n
+    }
+    return (l.length() & 0xFF) as base.u32
+}
+""", ["bytes x 010203", "call p.f i=3 x=255 g=x", "call p.f i=0 x=1 g=x", "show x", "call p.f i=1 x=2 g=null"]),
     "a slice that is made shorter where it stands": ("""\
 pub struct s?(
     n : base.u64,
