@@ -10,7 +10,7 @@ use Rattle.wf_base.specs.declared.marks.Mark.TheVariants.{Pure, Impure, Coroutin
 use Rattle.wf_ast.specs.declared.types.Ty.{Ty}
 use Rattle.wf_ast.specs.declared.types.Ty.TheVariants as types
 use Rattle.wf_ast.specs.TypedPackage.{Variable, MethodTree}
-use Rattle.wf_ast.specs.TypedTree.{local, field, arg, NumTree, number, read, element, link, convert, length_of, asked, ValueTree, numeric, logical, state, elements, io, lost, StatusTree, status, held, no_status, Target, to_number, to_element, to_flag, to_status, to_slice, to_nothing, Awaited, take_number, skip, write, Written, skip_fast, write_fast, copy_to_writer, copy_to_slice, Called, own, sub, Simple, assign, await, perform, invoke, break_from, continue_in, give_back, yield, claim, Site, Block, end, plain, choose, loop}
+use Rattle.wf_ast.specs.TypedTree.{local, field, arg, NumTree, SliceTree, number, read, element, link, convert, length_of, asked, ValueTree, numeric, logical, state, elements, io, lost, StatusTree, status, held, no_status, Target, to_number, to_element, to_flag, to_status, to_slice, to_nothing, Awaited, take_number, skip, write, Written, skip_fast, write_fast, copy_to_writer, copy_to_slice, Called, own, sub, Simple, assign, await, perform, invoke, break_from, continue_in, give_back, yield, claim, Site, Block, end, plain, choose, loop}
 use Rattle.wf_ast.specs.WellTyped.{is_coroutine, breaks, number_of}
 use Rattle.wf_ast.proofs.Arena.{both_true}
 use Rattle.wf_meaning.specs.Entry.{short_read, short_write, cannot_suspend}
@@ -21,9 +21,9 @@ use Rattle.c_text.specs.declared.kinds.CNumber.TheVariants.{Int}
 use Rattle.c_text.specs.declared.kinds.Otherwise.TheVariants as else_is
 use Rattle.c_text.specs.CTree.{ExprTree, Code, finish, empty, leave, case_label, name_label}
 use Rattle.c_text.specs.CTree as c
-use Rattle.wf_exprs.specs.Names.{Names, again_label, behind_label}
+use Rattle.wf_exprs.specs.Names.{Names, local_pointer, local_length, again_label, behind_label}
 use Rattle.wf_exprs.specs.Words.{num, two, args}
-use Rattle.wf_exprs.specs.Exprs.{Pair, is_itself, taken, bare, lowered_expr, given, lowered_slice, lowered_status, lowered_cond, status_constant, begins_with, io_code, place_code, end_code, there}
+use Rattle.wf_exprs.specs.Exprs.{Pair, path_code, is_itself, taken, bare, lowered_expr, given, lowered_slice, lowered_status, lowered_cond, status_constant, begins_with, io_code, place_code, end_code, there}
 use Rattle.wf_lower_stmts.specs.Forms.{Form, status_local, held_local, size_local, count_local, is_io, is_kept, stays, holds_something, counts_bytes, keeps, place_in, end_of, when, put, get, save_locals, restore_locals, save_count, restore_count, save_started, restore_started, give, suspend, resume_here}
 use Rattle.wf_lower_stmts.specs.Lower.{lower, continues, again_here, other_kind, returns, ending, ending_of, has_result, tail_of, top}
 use Rattle.wf_lower_stmts.specs.Statements.{next_byte, step_on, is_big_endian, with_byte, slice_bits, bytes_for, answer_local, is_wanted, put_into, set_place, set_single, set_slice, set_value, take_byte, take_bytes, written_byte, are_all_there, take_all, begun_call, awoken_call, lower_written, value_codes, values_codes, receiver_code, is_passed, call_into, hand_on, put_result, handed_call, plain_call, give_status, give_value, begun, awoken, lower_point, lower_plain, lower_simple}
@@ -187,16 +187,20 @@ module _ (d : ℕ) where
   sets_by place v rest h i j = code_if k_max (is_itself place v) rest (c.assign place v rest) j (code_assign k_max place v rest h i j)
 
   singles_by : (names : Names) (t : Target) (v : ExprTree) (rest : Code) → target_within d t ≡ true → ExprBy k_max v → CodeBy k_max rest → CodeBy k_max (set_single names t v rest)
-  singles_by names (to_number at of path) v rest w h i = sets_by _ v rest (by_path names k_max path) h i
-  singles_by names (to_element at of cells index) v rest w h i = sets_by _ v rest (element_by names cells index w) h i
-  singles_by names (to_flag at path) v rest w h i = sets_by _ v rest (by_path names k_max path) h i
-  singles_by names (to_status at path) v rest w h i = sets_by _ v rest (by_path names k_max path) h i
+  singles_by names (to_number at of path) v rest w h i = sets_by (path_code names path) v rest (by_path names k_max path) h i
+  singles_by names (to_element at of cells index) v rest w h i = sets_by (c.element (lowered_slice names cells).pointer (lowered_expr names index)) v rest (element_by names cells index w) h i
+  singles_by names (to_flag at path) v rest w h i = sets_by (path_code names path) v rest (by_path names k_max path) h i
+  singles_by names (to_status at path) v rest w h i = sets_by (path_code names path) v rest (by_path names k_max path) h i
   singles_by names (to_slice at bits path) v rest w h i = i
   singles_by names to_nothing v rest w h i = i
 
   slices_by : (names : Names) (t : Target) (it : Pair) (rest : Code) → PairBy e_max it → CodeBy k_max rest → CodeBy k_max (set_slice names t it rest)
   slices_by names (to_slice at bits (local n)) it rest h i =
-      code_assign k_max _ _ _ (easy k_max _ (λ m. tt {0})) (deep it.length.code h.1) (sets_by _ _ _ (easy k_max _ (λ m. tt {0})) (deep it.pointer h.0) (code_assign k_max _ _ _ (easy k_max _ (λ m. tt {0})) (easy k_max _ (λ m. tt {0})) i))
+      let pointer = c.variable (local_pointer names n) in
+      let length = c.variable (local_length names n) in
+      let set_length = code_assign k_max length size_local rest (easy k_max length (λ m. tt {0})) (easy k_max size_local (λ m. tt {0})) i in
+      code_assign k_max size_local it.length.code (set_place pointer it.pointer (c.assign length size_local rest)) (easy k_max size_local (λ m. tt {0})) (deep it.length.code h.1)
+      (sets_by pointer it.pointer (c.assign length size_local rest) (easy k_max pointer (λ m. tt {0})) (deep it.pointer h.0) set_length)
   slices_by names (to_slice at bits (field n)) it rest h i = i
   slices_by names (to_slice at bits (arg n)) it rest h i = i
   slices_by names (to_number at of path) it rest h i = i

@@ -11,11 +11,11 @@ use Rattle.wf_ast.specs.WellTyped.{is_coroutine, number_of}
 use Rattle.c_text.specs.declared.kinds.Otherwise.TheVariants.{Nothing}
 use Rattle.c_text.specs.CTree.{ExprTree, Args, Code, finish, leave}
 use Rattle.c_text.specs.CTree as c
-use Rattle.wf_exprs.specs.Names.{Names, point_field}
+use Rattle.wf_exprs.specs.Names.{Names, local_pointer, local_length, point_field}
 use Rattle.wf_exprs.specs.Words.{num, of_self}
 use Rattle.wf_exprs.specs.Reads.{expr_reads, args_read, target_reads, result_reads, value_reads, code_reads}
 use Rattle.wf_lower_laws.proofs.Apart.{right_or}
-use Rattle.wf_exprs.specs.Exprs.{Pair, is_itself, given, lowered_slice, lowered_status, lowered_cond, status_constant}
+use Rattle.wf_exprs.specs.Exprs.{Pair, path_code, is_itself, lowered_expr, given, lowered_slice, lowered_status, lowered_cond, status_constant}
 use Rattle.wf_lower_stmts.specs.Forms.{Form, status_local, size_local, held_local, count_local, is_io, is_kept, stays, holds_something, counts_bytes, keeps, when, put, get, save_locals, restore_locals, save_count, restore_count, save_started, restore_started, give, suspend}
 use Rattle.wf_lower_stmts.specs.Lower.{returns, ending, ending_of, has_result, tail_of, top}
 use Rattle.wf_lower_stmts.specs.Statements.{next_byte, step_on, answer_local, put_into, set_place, set_single, set_slice, set_value, take_bytes, are_all_there, take_all, begun_call, awoken_call, lower_written, is_passed, call_into, hand_on, put_result, handed_call, plain_call, give_status, give_value, begun, awoken, lower_plain}
@@ -96,15 +96,16 @@ pub sets : (place v : ExprTree) (middle rest : Code) → Straight rest middle �
 sets place v middle rest h = ifs (is_itself place v) middle (c.assign place v middle) rest h (assigned _ _ _ h)
 
 singles : (names : Names) (t : Target) (v : ExprTree) (rest : Code) → Straight rest (set_single names t v rest)
-singles names (to_number at of path) v rest = sets _ v rest rest over
-singles names (to_element at of cells index) v rest = sets _ v rest rest over
-singles names (to_flag at path) v rest = sets _ v rest rest over
-singles names (to_status at path) v rest = sets _ v rest rest over
+singles names (to_number at of path) v rest = sets (path_code names path) v rest rest over
+singles names (to_element at of cells index) v rest = sets (c.element (lowered_slice names cells).pointer (lowered_expr names index)) v rest rest over
+singles names (to_flag at path) v rest = sets (path_code names path) v rest rest over
+singles names (to_status at path) v rest = sets (path_code names path) v rest rest over
 singles names (to_slice at bits path) v rest = over
 singles names to_nothing v rest = over
 
 slices : (names : Names) (t : Target) (it : Pair) (rest : Code) → Straight rest (set_slice names t it rest)
-slices names (to_slice at bits (local n)) it rest = assigned _ _ _ (sets _ it.pointer _ rest (assigned _ _ _ over))
+slices names (to_slice at bits (local n)) it rest =
+    assigned _ _ _ (sets (c.variable (local_pointer names n)) it.pointer (c.assign (c.variable (local_length names n)) size_local rest) rest (assigned _ _ _ over))
 slices names (to_slice at bits (field n)) it rest = over
 slices names (to_slice at bits (arg n)) it rest = over
 slices names (to_number at of path) it rest = over

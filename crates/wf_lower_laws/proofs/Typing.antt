@@ -41,7 +41,7 @@ use Rattle.wf_lower_laws.proofs.Apart.{left_or, right_or}
 use Rattle.wf_lower_laws.proofs.Names.{both_hold}
 use Rattle.wf_lower_laws.proofs.ExprKinds.{expressions_keep_kinds, number_ahead_kind, num_kind, taken_kind, two_kind, cast_kind, widened_kind, plus_kind, begins_kind}
 use Rattle.wf_lower_laws.proofs.Frames.{same_bytes, is_variable, is_result_of}
-use Rattle.wf_lower_laws.proofs.Straight.{straight_reads, gets, sets}
+use Rattle.wf_lower_laws.proofs.Straight.{over, straight_reads, gets, sets}
 use Rattle.wf_lower_laws.proofs.CodeTypes.{Fits, num_fits, text_fits, pointer_fits, Cell, NumCell, variable_num, CodeOk, ok_finish, ok_if, ok_assign, ok_number, ok_read, ok_leave, ok_branch, ok_when, ok_repeat, ok_jump, ok_empty, ok_case, ok_label, ok_call, ok_when_assigned, Or, absorb, widen, num_typed, num_counts, fits_typed}
 
 -- ---- all that an expression uses is there
@@ -455,10 +455,12 @@ module _ (c : Checked) (f : Form) (Settled : List ℕ → Type 0) (CallOk : List
         by false = assigned_ok
 
     single_ok : (t : Target) (v : ExprTree) (rest : Code) → Takes t v → Ok rest → Ok (set_single f.names t v rest)
-    single_ok (to_number at of path) v rest h ok = set_ok _ v rest ok (ok_number c Settled CallOk _ v rest h.0 h.1 ok)
-    single_ok (to_element at of cells index) v rest h ok = set_ok _ v rest ok (ok_number c Settled CallOk _ v rest h.0 h.1 ok)
-    single_ok (to_flag at path) v rest h ok = set_ok _ v rest ok (ok_number c Settled CallOk _ v rest h.0 h.1 ok)
-    single_ok (to_status at path) v rest h ok = set_ok _ v rest ok (ok_assign c Settled CallOk text _ v rest h.0 (text_fits S v h.1) ok)
+    single_ok (to_number at of path) v rest h ok = set_ok (path_code f.names path) v rest ok (ok_number c Settled CallOk (path_code f.names path) v rest h.0 h.1 ok)
+    single_ok (to_element at of cells index) v rest h ok =
+        let place = c_tree.element (lowered_slice f.names cells).pointer (lowered_expr f.names index) in
+        set_ok place v rest ok (ok_number c Settled CallOk place v rest h.0 h.1 ok)
+    single_ok (to_flag at path) v rest h ok = set_ok (path_code f.names path) v rest ok (ok_number c Settled CallOk (path_code f.names path) v rest h.0 h.1 ok)
+    single_ok (to_status at path) v rest h ok = set_ok (path_code f.names path) v rest ok (ok_assign c Settled CallOk text (path_code f.names path) v rest h.0 (text_fits S v h.1) ok)
     single_ok (to_slice at bits path) v rest h ok = ok
     single_ok to_nothing v rest h ok = ok
 
@@ -502,9 +504,10 @@ module _ (c : Checked) (f : Form) (Settled : List ℕ → Type 0) (CallOk : List
         let it = slice_ok v q.0 in
         let same : (element_type v).bits ≡ bits = grind (arith, nat_tests, q.1) in
         let P : ℕ → Type 0 = λ b. IsPointer S b (lowered_slice f.names v).pointer in
-        let length_ok : Ok (c_tree.assign (variable (local_length f.names n)) size_local rest) = ok_number c Settled CallOk (variable (local_length f.names n)) size_local rest (s.lengths bits n p.0) size_num ok in
-        ok_read c Settled CallOk size (codes "size") _ _ s.size_held (num_fits S size _ refl it.1) (right_or (expr_reads (codes "size") (lowered_slice f.names v).length.code) _ (straight_reads (codes "size") (c_tree.assign (variable (local_length f.names n)) size_local rest) _ (sets _ _ _ _ over) refl))
-        (set_ok _ _ _ length_ok (ok_assign c Settled CallOk (uint_pointer (width_of bits)) (variable (local_pointer f.names n)) _ _ (s.pointers bits n p.0) (pointer_fits S bits _ (subst P same it.0)) length_ok))
+        let length_set = c_tree.assign (variable (local_length f.names n)) size_local rest in
+        let length_ok : Ok length_set = ok_number c Settled CallOk (variable (local_length f.names n)) size_local rest (s.lengths bits n p.0) size_num ok in
+        ok_read c Settled CallOk size (codes "size") _ _ s.size_held (num_fits S size _ refl it.1) (right_or (expr_reads (codes "size") (lowered_slice f.names v).length.code) _ (straight_reads (codes "size") length_set (set_place (variable (local_pointer f.names n)) (lowered_slice f.names v).pointer length_set) (sets (variable (local_pointer f.names n)) (lowered_slice f.names v).pointer length_set length_set over) refl))
+        (set_ok (variable (local_pointer f.names n)) (lowered_slice f.names v).pointer length_set length_ok (ok_assign c Settled CallOk (uint_pointer (width_of bits)) (variable (local_pointer f.names n)) (lowered_slice f.names v).pointer length_set (s.pointers bits n p.0) (pointer_fits S bits _ (subst P same it.0)) length_ok))
     slices_ok (to_slice at bits (field n)) v rest w ok = ok
     slices_ok (to_slice at bits (arg n)) v rest w ok = ok
     slices_ok (to_number at of path) v rest w ok = ok

@@ -6,6 +6,7 @@ ghost use Rattle.wf_text.specs.declared.place.Place.{Place};
 ghost use Rattle.wf_ast.specs.declared.typed_nodes.TypedNodes.{TypedNodes};
 ghost use Rattle.wf_ast.specs.TypedTrees.{named, optional_target, target_of as target_tree, tree_of, type_of_node};
 ghost use Rattle.wf_ast.specs.NodeKinds.{is_number_at, is_slice_at, node_number, node_slice};
+ghost use Rattle.c_text.specs.CFits.{HasTarget};
 ghost use Rattle.c_text.specs.CNodes.{code_of, expr_of};
 ghost use Rattle.c_text.specs.CTree as c;
 ghost use Rattle.wf_exprs.specs.Exprs.{lowered_expr, lowered_slice};
@@ -162,7 +163,7 @@ fn set_place(
     value: CExprId,
     rest: CStmtId,
 ) -> Result<CStmtId, NoMemory>
-    requires place { place.0 < length u.old.exprs }
+    requires place { HasTarget u.old (length u.old.exprs) place }
     requires value { value.0 < length u.old.exprs }
     requires rest { rest.0 < length u.old.stmts }
     ensures grows { Grows u.old u.new }
