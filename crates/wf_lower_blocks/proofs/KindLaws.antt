@@ -1,5 +1,7 @@
 -- What has another kind than the one that is wanted stands as a tree that no typed package has.
 use Rattle.std.proofs.Common.{◌≡◌, Bool, ◌&&◌, true, false, Result, IfOk, refl, subst}
+use Rattle.std.specs.Prelude.{bytes_eq}
+use Rattle.std.proofs.lemmas.Slice.Eq.{bytes_eq-Decides}
 use Rattle.wf_text.specs.declared.faults.NoMemory.{NoMemory}
 use Rattle.wf_ast.specs.declared.numbers.ExprId.{ExprId}
 use Rattle.wf_ast.specs.declared.types.Ty.{Ty}
@@ -9,9 +11,12 @@ use Rattle.wf_ast.specs.TypedTree.{local, equal, compare, slice, ValueTree, nume
 use Rattle.wf_ast.specs.TypedTrees.{no_number, no_place, num_in, cond_in, slice_in, tree_of, type_of_node}
 use Rattle.wf_ast.specs.TypedInvariant.{IsTyped, is_expr, is_numeric, is_logical, is_list, is_tree_of}
 use Rattle.wf_ast.specs.NodeKinds.{is_number_at, is_condition_at, is_slice_at, node_number, node_cond, node_slice}
+use Rattle.c_text.specs.declared.kinds.COp.TheVariants.{Add, Eq}
 use Rattle.c_text.specs.CNodes.{Nodes}
 use Rattle.wf_exprs.specs.declared.rated.Pair.{Pair as PairNode}
-use Rattle.wf_exprs.specs.Exprs.{Pair}
+use Rattle.wf_exprs.specs.Names.{Names, local_name}
+use Rattle.wf_exprs.specs.Words.{num, two}
+use Rattle.wf_exprs.specs.Exprs.{Pair, path_code, lowered_cond}
 use Rattle.wf_exprs.specs.Making.{HasPair}
 use Rattle.wf_lower_stmts.proofs.PlaceLaws.{kind_at}
 
@@ -73,6 +78,13 @@ module _ (nodes : TypedNodes) (typed : IsTyped nodes) (e : ExprId) (known : is_e
 
   pub no_slice_at : is_slice_at nodes e ≡ false → node_slice nodes e ≡ slice no_place 0 (local 0)
   no_slice_at h = none_list (tree_of nodes e) (type_of_node nodes e.0) (kind_at nodes typed e known) (second_false (is_expr nodes e) (is_list (type_of_node nodes e.0)) known h)
+
+-- What stands for no condition: a variable that is compared with itself.
+pub no_condition_code : (names : Names) → lowered_cond names (compare no_place no_place no_number equal no_number) ≡ two Eq (two Add (path_code names (local 0)) (num 0)) (path_code names (local 0))
+no_condition_code names =
+    let name = local_name names 0 in
+    let same : bytes_eq name name ≡ true = (bytes_eq-Decides name name).2 refl in
+    rw same refl
 
 -- The same slice in other words.
 pub retell_pair : (u : Nodes) (x y : Pair) (r : Result PairNode NoMemory) → x ≡ y → IfOk r (λ it. HasPair u it x) → IfOk r (λ it. HasPair u it y)

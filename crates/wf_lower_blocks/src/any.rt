@@ -3,16 +3,18 @@
 
 ghost use Rattle.std.specs.Prelude.{◌≡◌, IsTrue, IfOk};
 ghost use Rattle.wf_ast.specs.TypedInvariant.{is_expr};
-ghost use Rattle.wf_exprs.specs.Exprs.{compared, given as given_code, lowered_cond, lowered_expr, lowered_slice, path_code};
-ghost use Rattle.wf_ast.specs.TypedTree.{equal, local};
+ghost use Rattle.wf_exprs.specs.Exprs.{given as given_code, lowered_cond, lowered_expr, lowered_slice, path_code};
+ghost use Rattle.wf_ast.specs.TypedTree.{local};
 ghost use Rattle.wf_ast.specs.NodeKinds.{is_condition_at, is_number_at, is_slice_at, node_cond, node_number, node_slice};
 ghost use Rattle.wf_exprs.specs.Grown.{Grows, HasExpr};
 ghost use Rattle.wf_exprs.specs.Making.{HasPair};
+ghost use Rattle.wf_exprs.specs.Words.{num, two as two_codes};
+ghost use Rattle.c_text.specs.declared.kinds.COp.TheVariants.{Add, Eq};
 ghost use Rattle.wf_lower_stmts.specs.BodyNodes.{form_in};
 
 use c_text::{CExprId, COp, Unit};
 use wf_ast::{ExprId, Ty, Typed};
-use wf_exprs::nodes::{negated, two};
+use wf_exprs::nodes::{number, two};
 use wf_exprs::{Pair, Path};
 use wf_exprs_nodes::numbers::path_pair;
 use wf_exprs_nodes::{condition, given, lower_slice};
@@ -96,11 +98,12 @@ pub(crate) fn condition_on(b: &Body, u: &mut Unit, e: ExprId) -> Result<CExprId,
 // What stands for no condition: a variable compared with itself.
 fn no_condition(b: &Body, u: &mut Unit) -> Result<CExprId, NoMemory>
     ensures grows { Grows u.old u.new }
-    ensures made { IfOk result (λ it. HasExpr u.new it.0 (compared equal (path_code (form_in b.now).names (local 0)) (path_code (form_in b.now).names (local 0)))) }
+    ensures made { IfOk result (λ it. HasExpr u.new it.0 (two_codes Eq (two_codes Add (path_code (form_in b.now).names (local 0)) (num 0)) (path_code (form_in b.now).names (local 0)))) }
 {
     let variable = b.scope().local(u, 0)?;
-    let differs = two(b.alloc(), u, COp::Ne, variable, variable)?;
-    negated(u, differs)
+    let none = number(u, 0)?;
+    let left = two(b.alloc(), u, COp::Add, variable, none)?;
+    two(b.alloc(), u, COp::Eq, left, variable)
 }
 
 /// A slice or a whole array.
