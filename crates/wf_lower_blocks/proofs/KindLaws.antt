@@ -83,7 +83,7 @@ module _ (nodes : TypedNodes) (typed : IsTyped nodes) (e : ExprId) (known : is_e
 pub no_condition_code : (names : Names) → lowered_cond names (compare no_place no_place no_number equal no_number) ≡ two Eq (two Add (path_code names (local 0)) (num 0)) (path_code names (local 0))
 no_condition_code names =
     let name = local_name names 0 in
-    let same : bytes_eq name name ≡ true = (bytes_eq-Decides name name).2 refl in
+    let same : bytes_eq name name ≡ true = (bytes_eq-Decides name name).1 refl in
     rw same refl
 
 -- The same slice in other words.
