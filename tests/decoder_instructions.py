@@ -4,11 +4,10 @@
 
 usage: decoder_instructions.py PROGRAM [CC]
 
-The packages are packbits.wuffs (a reader and a writer), rows.wuffs (slices), lzw.wuffs (tables in its struct) and words.wuffs (numbers
-of four bytes) of tests/decoders, those by hand *_by_hand.c beside them. Both get the same bytes in the same pieces and have to give the
-same output. Prints a line for each, with the factor, and ends with 1 where an output differs or a factor is above 1.25, or 1.40 for
-words.wuffs, whose four bytes gcc loads one by one where it makes one load of those by hand, and with 0 where gcc or valgrind is
-missing.
+The packages are packbits.wuffs (a reader and a writer), rows.wuffs (slices) and lzw.wuffs (tables in its struct) of tests/decoders,
+those by hand *_by_hand.c beside them. Both get the same bytes in the same pieces and have to give the
+same output. Prints a line for each, with the factor, and ends with 1 where an output differs or a factor is above 1.25, and with 0
+where gcc or valgrind is missing.
 """
 import pathlib
 import random
@@ -20,7 +19,6 @@ import tempfile
 
 ROOT = pathlib.Path(__file__).resolve().parent.parent
 MOST = 1.25
-MOST_FOR_WORDS = 1.40
 
 # What counts is what `run` takes: it isn't inlined, and stands in a file of its own.
 STREAM = r"""
@@ -153,10 +151,9 @@ def coded(random_):
 def cases():
     random_ = random.Random(7)
     return [
-        ("packbits", ROOT / "tests" / "decoders" / "packbits.wuffs", STREAM, STREAM_MAIN, "wuffs_packbits__unpacker", "unpack", packed(random_), MOST),
-        ("rows", ROOT / "tests" / "decoders" / "rows.wuffs", ROWS, ROWS_MAIN, "wuffs_rows__rows", "", random_.randbytes(200_000), MOST),
-        ("lzw", ROOT / "tests" / "decoders" / "lzw.wuffs", STREAM, STREAM_MAIN, "wuffs_lzw__lzw", "decode", coded(random_), MOST),
-        ("words", ROOT / "tests" / "decoders" / "words.wuffs", STREAM, STREAM_MAIN, "wuffs_words__words", "narrow", random_.randbytes(400_000), MOST_FOR_WORDS),
+        ("packbits", ROOT / "tests" / "decoders" / "packbits.wuffs", STREAM, STREAM_MAIN, "wuffs_packbits__unpacker", "unpack", packed(random_)),
+        ("rows", ROOT / "tests" / "decoders" / "rows.wuffs", ROWS, ROWS_MAIN, "wuffs_rows__rows", "", random_.randbytes(200_000)),
+        ("lzw", ROOT / "tests" / "decoders" / "lzw.wuffs", STREAM, STREAM_MAIN, "wuffs_lzw__lzw", "decode", coded(random_)),
     ]
 
 
@@ -178,7 +175,7 @@ def main():
         print(f"skipped, since there is no {cc} or no valgrind")
         return 0
     failed = 0
-    for name, source, wrapper, main_text, receiver, method, given, most in cases():
+    for name, source, wrapper, main_text, receiver, method, given in cases():
         with tempfile.TemporaryDirectory() as at:
             folder = pathlib.Path(at)
             made = subprocess.run([program, "gen", name, source], capture_output=True)
@@ -192,7 +189,7 @@ def main():
             factor = count / by_hand
             said = "" if output == expected else ", and the outputs differ"
             print(f"{name}: {count:,} instructions, {by_hand:,} by hand, factor {factor:.2f}{said}")
-            failed |= factor > most or output != expected
+            failed |= factor > MOST or output != expected
     return failed
 
 
