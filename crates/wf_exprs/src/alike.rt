@@ -10,7 +10,7 @@ use c_text::{CExpr, CExprId, COp, Unit};
 
 /// Whether compilers take two expressions for one: they are alike node by node, or two operands stand the other way round. It takes
 /// no memory, and a time that is proportional to the smaller of the two.
-pub fn is_itself(u: &Unit, e: CExprId, other: CExprId) -> bool
+pub(crate) fn is_itself(u: &Unit, e: CExprId, other: CExprId) -> bool
     requires one { e.0 < length u.now.exprs }
     requires other { other.0 < length u.now.exprs }
     ensures { result ≡ is_itself_tree (expr_of u.now e.0) (expr_of u.now other.0) }

@@ -2,7 +2,7 @@
 // operators, and what a method's expressions name.
 #![tactic(auto)]
 
-pub mod alike;
+mod alike;
 pub mod examples;
 pub mod names;
 pub mod nodes;

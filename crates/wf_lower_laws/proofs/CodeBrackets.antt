@@ -23,10 +23,10 @@ use Rattle.c_text.specs.CTree.{ExprTree, Code, finish, empty, leave, case_label,
 use Rattle.c_text.specs.CTree as c
 use Rattle.wf_exprs.specs.Names.{Names, local_pointer, local_length, again_label, behind_label}
 use Rattle.wf_exprs.specs.Words.{num, two, args}
-use Rattle.wf_exprs.specs.Exprs.{Pair, path_code, is_itself, taken, bare, lowered_expr, given, lowered_slice, lowered_status, lowered_cond, status_constant, begins_with, io_code, place_code, end_code, there}
+use Rattle.wf_exprs.specs.Exprs.{Pair, path_code, taken, bare, lowered_expr, given, lowered_slice, lowered_status, lowered_cond, status_constant, begins_with, io_code, place_code, end_code, there}
 use Rattle.wf_lower_stmts.specs.Forms.{Form, status_local, held_local, size_local, count_local, is_io, is_kept, stays, holds_something, counts_bytes, keeps, place_in, end_of, when, put, get, save_locals, restore_locals, save_count, restore_count, save_started, restore_started, give, suspend, resume_here}
 use Rattle.wf_lower_stmts.specs.Lower.{lower, continues, again_here, other_kind, returns, ending, ending_of, has_result, tail_of, top}
-use Rattle.wf_lower_stmts.specs.Statements.{next_byte, step_on, is_big_endian, with_byte, slice_bits, bytes_for, answer_local, is_wanted, put_into, set_place, set_single, set_slice, set_value, take_byte, take_bytes, written_byte, are_all_there, take_all, begun_call, awoken_call, lower_written, value_codes, values_codes, receiver_code, is_passed, call_into, hand_on, put_result, handed_call, plain_call, give_status, give_value, begun, awoken, lower_point, lower_plain, lower_simple}
+use Rattle.wf_lower_stmts.specs.Statements.{next_byte, step_on, is_big_endian, with_byte, slice_bits, bytes_for, answer_local, is_wanted, put_into, is_same_variable, set_place, set_slice, set_value, take_byte, take_bytes, written_byte, are_all_there, take_all, begun_call, awoken_call, lower_written, value_codes, values_codes, receiver_code, is_passed, call_into, hand_on, put_result, handed_call, plain_call, give_status, give_value, begun, awoken, lower_point, lower_plain, lower_simple}
 use Rattle.wf_lower_laws.specs.BracketLaw.{num_within, slice_within, cond_within, value_within, target_within, awaited_within, written_within, simple_within, is_chained, block_within}
 use Rattle.wf_lower_laws.proofs.OpenBrackets.{ExprOpens, ArgsOpen, ValueOpens, CodeOpens}
 use Rattle.wf_lower_laws.proofs.ExprBrackets.{ExprBy, by_more, by_if, by_two, by_unary, by_cast, by_element, by_choice, by_num, by_path, by_constant, by_status, by_begins, by_number_ahead, at_least_one, PairBy, by_widened, num_by, slice_by, given_by, cond_by}
@@ -175,24 +175,16 @@ module _ (d : ℕ) where
       let l = at_least_one d p.0 in
       by_element (5 * (d - 1) + 5) k_max _ _ (omega (arith, l)) (by_more (5 * (d - 1) + 5) k_max _ (omega (arith, l)) (slice_by names (d - 1) cells q.0).0) (num_by names (d - 1) index q.1)
 
+  sets_by : (place v : ExprTree) (rest : Code) → ExprBy k_max place → ExprBy k_max v → CodeBy k_max rest → CodeBy k_max (set_place place v rest)
+  sets_by place v rest h i j = code_if k_max (is_same_variable place v) rest (c.assign place v rest) j (code_assign k_max place v rest h i j)
+
   intos_by : (names : Names) (t : Target) (v : ExprTree) (rest : Code) → target_within d t ≡ true → ExprBy k_max v → CodeBy k_max rest → CodeBy k_max (put_into names t v rest)
-  intos_by names (to_number at of path) v rest w h i = code_assign k_max _ v rest (by_path names k_max path) h i
-  intos_by names (to_element at of cells index) v rest w h i = code_assign k_max _ v rest (element_by names cells index w) h i
-  intos_by names (to_flag at path) v rest w h i = code_assign k_max _ v rest (by_path names k_max path) h i
-  intos_by names (to_status at path) v rest w h i = code_assign k_max _ v rest (by_path names k_max path) h i
+  intos_by names (to_number at of path) v rest w h i = sets_by (path_code names path) v rest (by_path names k_max path) h i
+  intos_by names (to_element at of cells index) v rest w h i = sets_by (c.element (lowered_slice names cells).pointer (lowered_expr names index)) v rest (element_by names cells index w) h i
+  intos_by names (to_flag at path) v rest w h i = sets_by (path_code names path) v rest (by_path names k_max path) h i
+  intos_by names (to_status at path) v rest w h i = sets_by (path_code names path) v rest (by_path names k_max path) h i
   intos_by names (to_slice at bits path) v rest w h i = i
   intos_by names to_nothing v rest w h i = i
-
-  sets_by : (place v : ExprTree) (rest : Code) → ExprBy k_max place → ExprBy k_max v → CodeBy k_max rest → CodeBy k_max (set_place place v rest)
-  sets_by place v rest h i j = code_if k_max (is_itself place v) rest (c.assign place v rest) j (code_assign k_max place v rest h i j)
-
-  singles_by : (names : Names) (t : Target) (v : ExprTree) (rest : Code) → target_within d t ≡ true → ExprBy k_max v → CodeBy k_max rest → CodeBy k_max (set_single names t v rest)
-  singles_by names (to_number at of path) v rest w h i = sets_by (path_code names path) v rest (by_path names k_max path) h i
-  singles_by names (to_element at of cells index) v rest w h i = sets_by (c.element (lowered_slice names cells).pointer (lowered_expr names index)) v rest (element_by names cells index w) h i
-  singles_by names (to_flag at path) v rest w h i = sets_by (path_code names path) v rest (by_path names k_max path) h i
-  singles_by names (to_status at path) v rest w h i = sets_by (path_code names path) v rest (by_path names k_max path) h i
-  singles_by names (to_slice at bits path) v rest w h i = i
-  singles_by names to_nothing v rest w h i = i
 
   slices_by : (names : Names) (t : Target) (it : Pair) (rest : Code) → PairBy e_max it → CodeBy k_max rest → CodeBy k_max (set_slice names t it rest)
   slices_by names (to_slice at bits (local n)) it rest h i =
@@ -210,9 +202,9 @@ module _ (d : ℕ) where
   slices_by names to_nothing it rest h i = i
 
   values_by : (names : Names) (t : Target) (v : ValueTree) (rest : Code) → target_within d t ≡ true → value_within d v ≡ true → CodeBy k_max rest → CodeBy k_max (set_value names t v rest)
-  values_by names t (numeric v) rest w u i = singles_by names t (given names v) rest w (deep_given _ (given_by names d v u)) i
-  values_by names t (logical v) rest w u i = singles_by names t (lowered_cond names v) rest w (deep _ (cond_by names d v u)) i
-  values_by names t (state v) rest w u i = singles_by names t (lowered_status names v) rest w (by_status names k_max v) i
+  values_by names t (numeric v) rest w u i = intos_by names t (given names v) rest w (deep_given _ (given_by names d v u)) i
+  values_by names t (logical v) rest w u i = intos_by names t (lowered_cond names v) rest w (deep _ (cond_by names d v u)) i
+  values_by names t (state v) rest w u i = intos_by names t (lowered_status names v) rest w (by_status names k_max v) i
   values_by names t (elements v) rest w u i = slices_by names t (lowered_slice names v) rest (slice_by names d v u) i
   values_by names t (io at a) rest w u i = i
   values_by names t lost rest w u i = i

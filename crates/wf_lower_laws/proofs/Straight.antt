@@ -15,10 +15,10 @@ use Rattle.wf_exprs.specs.Names.{Names, local_pointer, local_length, point_field
 use Rattle.wf_exprs.specs.Words.{num, of_self}
 use Rattle.wf_exprs.specs.Reads.{expr_reads, args_read, target_reads, result_reads, value_reads, code_reads}
 use Rattle.wf_lower_laws.proofs.Apart.{right_or}
-use Rattle.wf_exprs.specs.Exprs.{Pair, path_code, is_itself, lowered_expr, given, lowered_slice, lowered_status, lowered_cond, status_constant}
+use Rattle.wf_exprs.specs.Exprs.{Pair, path_code, lowered_expr, given, lowered_slice, lowered_status, lowered_cond, status_constant}
 use Rattle.wf_lower_stmts.specs.Forms.{Form, status_local, size_local, held_local, count_local, is_io, is_kept, stays, holds_something, counts_bytes, keeps, when, put, get, save_locals, restore_locals, save_count, restore_count, save_started, restore_started, give, suspend}
 use Rattle.wf_lower_stmts.specs.Lower.{returns, ending, ending_of, has_result, tail_of, top}
-use Rattle.wf_lower_stmts.specs.Statements.{next_byte, step_on, answer_local, put_into, set_place, set_single, set_slice, set_value, take_bytes, are_all_there, take_all, begun_call, awoken_call, lower_written, is_passed, call_into, hand_on, put_result, handed_call, plain_call, give_status, give_value, begun, awoken, lower_plain}
+use Rattle.wf_lower_stmts.specs.Statements.{next_byte, step_on, answer_local, put_into, is_same_variable, set_place, set_slice, set_value, take_bytes, are_all_there, take_all, begun_call, awoken_call, lower_written, is_passed, call_into, hand_on, put_result, handed_call, plain_call, give_status, give_value, begun, awoken, lower_plain}
 
 pub data Straight : (rest code : Code) → Type 0 where
   over : {rest : Code} → Straight rest rest
@@ -84,24 +84,16 @@ suspends f j e rest =
     follows _ (save_started f.method (c.assign (of_self (point_field f.method.name)) (num j) (give f (Some e) rest))) rest (saves f.method.name f.method.locals _)
     (follows _ (c.assign (of_self (point_field f.method.name)) (num j) (give f (Some e) rest)) rest (saves_started f.method _) (assigned _ _ _ (gives f (Some e) rest)))
 
+pub sets : (place v : ExprTree) (middle rest : Code) → Straight rest middle → Straight rest (set_place place v middle)
+sets place v middle rest h = ifs (is_same_variable place v) middle (c.assign place v middle) rest h (assigned _ _ _ h)
+
 intos : (names : Names) (t : Target) (v : ExprTree) (rest : Code) → Straight rest (put_into names t v rest)
-intos names (to_number at of path) v rest = assigned _ _ _ over
-intos names (to_element at of cells index) v rest = assigned _ _ _ over
-intos names (to_flag at path) v rest = assigned _ _ _ over
-intos names (to_status at path) v rest = assigned _ _ _ over
+intos names (to_number at of path) v rest = sets (path_code names path) v rest rest over
+intos names (to_element at of cells index) v rest = sets (c.element (lowered_slice names cells).pointer (lowered_expr names index)) v rest rest over
+intos names (to_flag at path) v rest = sets (path_code names path) v rest rest over
+intos names (to_status at path) v rest = sets (path_code names path) v rest rest over
 intos names (to_slice at bits path) v rest = over
 intos names to_nothing v rest = over
-
-pub sets : (place v : ExprTree) (middle rest : Code) → Straight rest middle → Straight rest (set_place place v middle)
-sets place v middle rest h = ifs (is_itself place v) middle (c.assign place v middle) rest h (assigned _ _ _ h)
-
-singles : (names : Names) (t : Target) (v : ExprTree) (rest : Code) → Straight rest (set_single names t v rest)
-singles names (to_number at of path) v rest = sets (path_code names path) v rest rest over
-singles names (to_element at of cells index) v rest = sets (c.element (lowered_slice names cells).pointer (lowered_expr names index)) v rest rest over
-singles names (to_flag at path) v rest = sets (path_code names path) v rest rest over
-singles names (to_status at path) v rest = sets (path_code names path) v rest rest over
-singles names (to_slice at bits path) v rest = over
-singles names to_nothing v rest = over
 
 slices : (names : Names) (t : Target) (it : Pair) (rest : Code) → Straight rest (set_slice names t it rest)
 slices names (to_slice at bits (local n)) it rest =
@@ -115,9 +107,9 @@ slices names (to_status at path) it rest = over
 slices names to_nothing it rest = over
 
 values : (names : Names) (t : Target) (v : ValueTree) (rest : Code) → Straight rest (set_value names t v rest)
-values names t (numeric v) rest = singles names t (given names v) rest
-values names t (logical v) rest = singles names t (lowered_cond names v) rest
-values names t (state v) rest = singles names t (lowered_status names v) rest
+values names t (numeric v) rest = intos names t (given names v) rest
+values names t (logical v) rest = intos names t (lowered_cond names v) rest
+values names t (state v) rest = intos names t (lowered_status names v) rest
 values names t (elements v) rest = slices names t (lowered_slice names v) rest
 values names t (io at a) rest = over
 values names t lost rest = over

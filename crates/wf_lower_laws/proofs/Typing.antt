@@ -30,11 +30,11 @@ use Rattle.c_meaning.specs.CStep.{Callee, callee_of, own as own_function}
 use Rattle.c_meaning.specs.UnitForm.{uint_of as form_uint, Checked, has_type, formed_return, formed_call, is_called, may_keep, answer_type, arg_params, args_params}
 use Rattle.wf_exprs.specs.Names.{local_pointer, local_length, point_field, held_field, count_field, struct_type, again_label, behind_label}
 use Rattle.wf_exprs.specs.Words.{num, uint_of, width_of, two, of_self, args}
-use Rattle.wf_exprs.specs.Exprs.{bare, path_code, is_itself, lowered_expr, lowered_slice, given, lowered_status, lowered_cond, status_constant, begins_with, io_code, place_code, end_code, bytes_code, there}
+use Rattle.wf_exprs.specs.Exprs.{bare, path_code, lowered_expr, lowered_slice, given, lowered_status, lowered_cond, status_constant, begins_with, io_code, place_code, end_code, bytes_code, there}
 use Rattle.wf_exprs.specs.Reads.{expr_reads, code_reads}
 use Rattle.wf_lower_stmts.specs.Forms.{Form, status_local, got_local, size_local, held_local, count_local, is_io, is_kept, local_code, saved_code, stays, holds_something, counts_bytes, keeps, place_in, end_of, when, put, get, save_locals, restore_locals, save_count, save_started, give, suspend, resume_here}
 use Rattle.wf_lower_stmts.specs.Lower.{lower, continues as continues_in, again_here, behind_here, other_kind, returns, ending, ending_of, has_result, tail_of, top}
-use Rattle.wf_lower_stmts.specs.Statements.{put_into, set_place, set_single, set_slice, set_value, step_on, next_byte, is_used_up, is_big_endian, with_byte, take_byte, take_bytes, written_byte, are_all_there, take_all, begun_call, awoken_call, slice_bits, bytes_for, least_size, move, lower_written, value_codes, values_codes, is_passed, receiver_code, callee_name, answer_local, is_wanted, call_into, hand_on, put_result, handed_call, plain_call, give_status, give_value, lower_point, lower_plain, lower_simple, is_suspension as is_held_back}
+use Rattle.wf_lower_stmts.specs.Statements.{put_into, is_same_variable, set_place, set_slice, set_value, step_on, next_byte, is_used_up, is_big_endian, with_byte, take_byte, take_bytes, written_byte, are_all_there, take_all, begun_call, awoken_call, slice_bits, bytes_for, least_size, move, lower_written, value_codes, values_codes, is_passed, receiver_code, callee_name, answer_local, is_wanted, call_into, hand_on, put_result, handed_call, plain_call, give_status, give_value, lower_point, lower_plain, lower_simple, is_suspension as is_held_back}
 use Rattle.wf_lower.specs.Bodies.{params_of, result_of}
 use Rattle.wf_lower_laws.specs.KindLaw.{IsNum, IsPointer, IsText, Declares, KeepKinds, has_op, has_question, num_served, slice_served, end_served, status_served, cond_served}
 use Rattle.wf_lower_laws.proofs.Apart.{left_or, right_or}
@@ -439,30 +439,22 @@ module _ (c : Checked) (f : Form) (Settled : List ℕ → Type 0) (CallOk : List
     Takes (to_slice at bits path) v = Unit {0}
     Takes to_nothing v = Unit {0}
 
-    into_ok : (t : Target) (v : ExprTree) (rest : Code) → Takes t v → Ok rest → Ok (put_into f.names t v rest)
-    into_ok (to_number at of path) v rest h ok = ok_number c Settled CallOk _ v rest h.0 h.1 ok
-    into_ok (to_element at of cells index) v rest h ok = ok_number c Settled CallOk _ v rest h.0 h.1 ok
-    into_ok (to_flag at path) v rest h ok = ok_number c Settled CallOk _ v rest h.0 h.1 ok
-    into_ok (to_status at path) v rest h ok = ok_assign c Settled CallOk text _ v rest h.0 (text_fits S v h.1) ok
-    into_ok (to_slice at bits path) v rest h ok = ok
-    into_ok to_nothing v rest h ok = ok
-
     set_ok : (place v : ExprTree) (rest : Code) → Ok rest → Ok (c_tree.assign place v rest) → Ok (set_place place v rest)
-    set_ok place v rest ok assigned_ok = by (is_itself place v)
+    set_ok place v rest ok assigned_ok = by (is_same_variable place v)
       where
         by : (same : Bool) → Ok (if same then rest else c_tree.assign place v rest)
         by true = ok
         by false = assigned_ok
 
-    single_ok : (t : Target) (v : ExprTree) (rest : Code) → Takes t v → Ok rest → Ok (set_single f.names t v rest)
-    single_ok (to_number at of path) v rest h ok = set_ok (path_code f.names path) v rest ok (ok_number c Settled CallOk (path_code f.names path) v rest h.0 h.1 ok)
-    single_ok (to_element at of cells index) v rest h ok =
+    into_ok : (t : Target) (v : ExprTree) (rest : Code) → Takes t v → Ok rest → Ok (put_into f.names t v rest)
+    into_ok (to_number at of path) v rest h ok = set_ok (path_code f.names path) v rest ok (ok_number c Settled CallOk (path_code f.names path) v rest h.0 h.1 ok)
+    into_ok (to_element at of cells index) v rest h ok =
         let place = c_tree.element (lowered_slice f.names cells).pointer (lowered_expr f.names index) in
         set_ok place v rest ok (ok_number c Settled CallOk place v rest h.0 h.1 ok)
-    single_ok (to_flag at path) v rest h ok = set_ok (path_code f.names path) v rest ok (ok_number c Settled CallOk (path_code f.names path) v rest h.0 h.1 ok)
-    single_ok (to_status at path) v rest h ok = set_ok (path_code f.names path) v rest ok (ok_assign c Settled CallOk text (path_code f.names path) v rest h.0 (text_fits S v h.1) ok)
-    single_ok (to_slice at bits path) v rest h ok = ok
-    single_ok to_nothing v rest h ok = ok
+    into_ok (to_flag at path) v rest h ok = set_ok (path_code f.names path) v rest ok (ok_number c Settled CallOk (path_code f.names path) v rest h.0 h.1 ok)
+    into_ok (to_status at path) v rest h ok = set_ok (path_code f.names path) v rest ok (ok_assign c Settled CallOk text (path_code f.names path) v rest h.0 (text_fits S v h.1) ok)
+    into_ok (to_slice at bits path) v rest h ok = ok
+    into_ok to_nothing v rest h ok = ok
 
     read_number : (at : Place) (of : NumType) (path : Path) → well_num x (read at of path) ≡ true → is_number of (type_at x path) ≡ true
     read_number at of path w = (both_true (is_range of) (is_number of (type_at x path)) (both_true (is_whole_number (read at of path)) (well_part x (read at of path)) w).1).1
@@ -553,9 +545,9 @@ module _ (c : Checked) (f : Form) (Settled : List ℕ → Type 0) (CallOk : List
     state_taken to_nothing v w = tt
 
     values_ok : (t : Target) (v : ValueTree) (rest : Code) → well_assigned x t v ≡ true → Ok rest → Ok (set_value f.names t v rest)
-    values_ok t (numeric v) rest w ok = single_ok t _ rest (number_taken t v w) ok
-    values_ok t (logical v) rest w ok = single_ok t _ rest (flag_taken t v w) ok
-    values_ok t (state v) rest w ok = single_ok t _ rest (state_taken t v w) ok
+    values_ok t (numeric v) rest w ok = into_ok t _ rest (number_taken t v w) ok
+    values_ok t (logical v) rest w ok = into_ok t _ rest (flag_taken t v w) ok
+    values_ok t (state v) rest w ok = into_ok t _ rest (state_taken t v w) ok
     values_ok t (elements v) rest w ok = slices_ok t v rest w ok
     values_ok t (io at a) rest w ok = ok
     values_ok t lost rest w ok = ok

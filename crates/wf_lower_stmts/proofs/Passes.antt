@@ -14,10 +14,10 @@ use Rattle.wf_meaning.specs.Entry.{short_read, short_write, cannot_suspend}
 use Rattle.c_meaning.specs.CStep.{Continuation, behind, Place, Label, find, first_of}
 use Rattle.wf_exprs.specs.Names.{Names, local_pointer, local_length, point_field}
 use Rattle.wf_exprs.specs.Words.{num, two, of_self, args}
-use Rattle.wf_exprs.specs.Exprs.{Pair, path_code, is_itself, lowered_expr, given, lowered_slice, lowered_status, lowered_cond, status_constant, begins_with}
+use Rattle.wf_exprs.specs.Exprs.{Pair, path_code, lowered_expr, given, lowered_slice, lowered_status, lowered_cond, status_constant, begins_with}
 use Rattle.wf_lower_stmts.specs.Forms.{Form, status_local, size_local, held_local, count_local, is_io, is_kept, stays, holds_something, counts_bytes, keeps, when, put, get, save_locals, save_count, save_started, give, suspend}
 use Rattle.wf_lower_stmts.specs.Lower.{returns, ending, ending_of, has_result, tail_of, top}
-use Rattle.wf_lower_stmts.specs.Statements.{next_byte, step_on, callee_name, receiver_code, values_codes, answer_local, is_wanted, is_suspension, put_into, set_place, set_single, set_slice, set_value, take_bytes, written_byte, begun_call, awoken_call, lower_written, is_passed, call_into, hand_on, put_result, handed_call, plain_call, give_status, give_value, begun, awoken, lower_plain}
+use Rattle.wf_lower_stmts.specs.Statements.{next_byte, step_on, callee_name, receiver_code, values_codes, answer_local, is_wanted, is_suspension, put_into, is_same_variable, set_place, set_slice, set_value, take_bytes, written_byte, begun_call, awoken_call, lower_written, is_passed, call_into, hand_on, put_result, handed_call, plain_call, give_status, give_value, begun, awoken, lower_plain}
 
 over : (p q : Option Place) → p ≡ None → first_of p q ≡ q
 over None q e = refl
@@ -58,24 +58,16 @@ module _ (l : Label) where
       saves f.method.name f.method.locals (save_started f.method (c.assign (of_self (point_field f.method.name)) (num j) (give f (Some e) rest))) k
       ∙ (started f.method (c.assign (of_self (point_field f.method.name)) (num j) (give f (Some e) rest)) k ∙ gives f (Some e) rest k)
 
+  sets : (place v : ExprTree) (rest : Code) → Passes (set_place place v rest) rest
+  sets place v rest = ifs (is_same_variable place v) rest (c.assign place v rest) rest (λ k. refl) (λ k. refl)
+
   intos : (names : Names) (t : Target) (v : ExprTree) (rest : Code) → Passes (put_into names t v rest) rest
-  intos names (to_number at of path) v rest k = refl
-  intos names (to_element at of cells index) v rest k = refl
-  intos names (to_flag at path) v rest k = refl
-  intos names (to_status at path) v rest k = refl
+  intos names (to_number at of path) v rest k = sets (path_code names path) v rest k
+  intos names (to_element at of cells index) v rest k = sets (c.element (lowered_slice names cells).pointer (lowered_expr names index)) v rest k
+  intos names (to_flag at path) v rest k = sets (path_code names path) v rest k
+  intos names (to_status at path) v rest k = sets (path_code names path) v rest k
   intos names (to_slice at bits path) v rest k = refl
   intos names to_nothing v rest k = refl
-
-  sets : (place v : ExprTree) (rest : Code) → Passes (set_place place v rest) rest
-  sets place v rest = ifs (is_itself place v) rest (c.assign place v rest) rest (λ k. refl) (λ k. refl)
-
-  singles : (names : Names) (t : Target) (v : ExprTree) (rest : Code) → Passes (set_single names t v rest) rest
-  singles names (to_number at of path) v rest k = sets (path_code names path) v rest k
-  singles names (to_element at of cells index) v rest k = sets (c.element (lowered_slice names cells).pointer (lowered_expr names index)) v rest k
-  singles names (to_flag at path) v rest k = sets (path_code names path) v rest k
-  singles names (to_status at path) v rest k = sets (path_code names path) v rest k
-  singles names (to_slice at bits path) v rest k = refl
-  singles names to_nothing v rest k = refl
 
   slices : (names : Names) (t : Target) (it : Pair) (rest : Code) → Passes (set_slice names t it rest) rest
   slices names (to_slice at bits (local n)) it rest k = sets (c.variable (local_pointer names n)) it.pointer (c.assign (c.variable (local_length names n)) size_local rest) k
@@ -88,9 +80,9 @@ module _ (l : Label) where
   slices names to_nothing it rest k = refl
 
   values : (names : Names) (t : Target) (v : ValueTree) (rest : Code) → Passes (set_value names t v rest) rest
-  values names t (numeric v) rest k = singles names t (given names v) rest k
-  values names t (logical v) rest k = singles names t (lowered_cond names v) rest k
-  values names t (state v) rest k = singles names t (lowered_status names v) rest k
+  values names t (numeric v) rest k = intos names t (given names v) rest k
+  values names t (logical v) rest k = intos names t (lowered_cond names v) rest k
+  values names t (state v) rest k = intos names t (lowered_status names v) rest k
   values names t (elements v) rest k = slices names t (lowered_slice names v) rest k
   values names t (io at a) rest k = refl
   values names t lost rest k = refl

@@ -1,5 +1,5 @@
 -- A statement without blocks of its own, before the code that follows it.
-use Rattle.std.specs.Prelude.{ℕ, zero, suc, ◌/◌, Bool, true, false, ◌&&◌, ◌||◌, if◌then◌else◌, nat_eq, List, [], ◌∷◌, ◌++◌, Option, None, Some, slice_get, codes}
+use Rattle.std.specs.Prelude.{ℕ, zero, suc, ◌/◌, Bool, true, false, ◌&&◌, ◌||◌, if◌then◌else◌, nat_eq, List, [], ◌∷◌, ◌++◌, Option, None, Some, slice_get, bytes_eq, codes}
 use Rattle.wf_text.specs.declared.categories.Category.TheVariants.{Suspension}
 use Rattle.wf_base.specs.declared.marks.Mark.{Mark}
 use Rattle.wf_base.specs.declared.base_methods.ReadForm.{ReadForm}
@@ -18,7 +18,7 @@ use Rattle.c_text.specs.CTree.{ExprTree, variable, element, unary, cast, Code, f
 use Rattle.c_text.specs.CTree as c
 use Rattle.wf_exprs.specs.Names.{Names, local_pointer, local_length, field_name, body_name, entry_name, again_label, behind_label}
 use Rattle.wf_exprs.specs.Words.{num, uint_of, two, self, of_self, args}
-use Rattle.wf_exprs.specs.Exprs.{Pair, path_code, is_itself, lowered_expr, lowered_slice, given, lowered_status, lowered_cond, status_constant, widened, begins_with, io_code, place_code, end_code, bytes_code, there, number_ahead}
+use Rattle.wf_exprs.specs.Exprs.{Pair, path_code, lowered_expr, lowered_slice, given, lowered_status, lowered_cond, status_constant, widened, begins_with, io_code, place_code, end_code, bytes_code, there, number_ahead}
 use Rattle.wf_lower_stmts.specs.Forms.{Form, status_local, got_local, size_local, held_local, count_local, stays, when, put, get, give, suspend, resume_here}
 
 -- Targets. What stands in C for one that takes a single value.
@@ -30,19 +30,18 @@ target_code names (to_status at path) = Some (path_code names path)
 target_code names (to_slice at bits path) = None
 target_code names to_nothing = None
 
+-- Whether both are one variable of C: a local or an argument, by its name. Elements and fields aren't asked for.
+abbrev pub is_same_variable : (e other : ExprTree) → Bool
+is_same_variable (variable name) (variable name') = bytes_eq name name'
+is_same_variable e other = false
+
+-- A variable isn't assigned to itself, since compilers remark on it: nothing stands for `x = x`, and a slice that is made shorter
+-- keeps its pointer.
+abbrev pub set_place : (place value : ExprTree) → (rest : Code) → Code
+set_place place value rest = if is_same_variable place value then rest else c.assign place value rest
+
 abbrev pub put_into : Names → Target → (value : ExprTree) → (rest : Code) → Code
 put_into names target value rest = by_target (target_code names target)
-  where
-    by_target : Option ExprTree → Code
-    by_target None = rest
-    by_target (Some place) = c.assign place value rest
-
--- Nothing is assigned to itself, since compilers remark on it: a slice that is made shorter keeps its pointer.
-abbrev pub set_place : (place value : ExprTree) → (rest : Code) → Code
-set_place place value rest = if is_itself place value then rest else c.assign place value rest
-
-abbrev pub set_single : Names → Target → (value : ExprTree) → (rest : Code) → Code
-set_single names target value rest = by_target (target_code names target)
   where
     by_target : Option ExprTree → Code
     by_target None = rest
@@ -55,9 +54,9 @@ set_slice names (to_slice at bits (local n)) it rest =
 set_slice names target it rest = rest
 
 abbrev pub set_value : Names → Target → ValueTree → (rest : Code) → Code
-set_value names target (numeric t) rest = set_single names target (given names t) rest
-set_value names target (logical t) rest = set_single names target (lowered_cond names t) rest
-set_value names target (state t) rest = set_single names target (lowered_status names t) rest
+set_value names target (numeric t) rest = put_into names target (given names t) rest
+set_value names target (logical t) rest = put_into names target (lowered_cond names t) rest
+set_value names target (state t) rest = put_into names target (lowered_status names t) rest
 set_value names target (elements t) rest = set_slice names target (lowered_slice names t) rest
 set_value names target value rest = rest
 

@@ -18,14 +18,13 @@ ghost use Rattle.wf_exprs_nodes.specs.Trees.{is_single, lowered_value};
 ghost use Rattle.wf_lower_stmts.specs.declared.targets.Target.TheVariants as targets;
 ghost use Rattle.wf_lower_stmts.specs.BodyNodes.{AreAlike, form_in, is_target, set_local, target_in};
 ghost use Rattle.wf_lower_stmts.specs.Forms.{size_local};
-ghost use Rattle.wf_lower_stmts.specs.Statements.{is_wanted as is_wanted_target, put_into as put_into_code, set_place as set_place_code, set_single as set_single_code, set_slice as set_slice_code, set_value as set_value_code};
+ghost use Rattle.wf_lower_stmts.specs.Statements.{is_same_variable as is_same_variable_tree, is_wanted as is_wanted_target, put_into as put_into_code, set_place as set_place_code, set_slice as set_slice_code, set_value as set_value_code};
 
 use crate::body::Body;
 use crate::code::assign;
 use crate::walks::type_at;
-use c_text::{CExprId, CStmtId, Unit};
+use c_text::{CExpr, CExprId, CStmtId, Unit};
 use wf_ast::{Expr, ExprId, Ty};
-use wf_exprs::alike::is_itself;
 use wf_exprs::nodes::{element, variable};
 use wf_exprs::{Pair, Path};
 use wf_exprs_nodes::{lower_expr, lower_slice, number};
@@ -128,35 +127,19 @@ fn element_of(b: &Body, u: &mut Unit, base: ExprId, at: ExprId) -> Result<CExprI
     element(u, cells.pointer, at)
 }
 
-/// `target = value;`, where the target takes a single value.
-pub fn put_into(
-    b: &Body,
-    u: &mut Unit,
-    target: Target,
-    value: CExprId,
-    rest: CStmtId,
-) -> Result<CStmtId, NoMemory>
-    requires target { is_target b.now.nodes target ≡ true }
-    requires value { value.0 < length u.old.exprs }
-    requires rest { rest.0 < length u.old.stmts }
-    ensures grows { Grows u.old u.new }
-    ensures made { IfOk result (λ it. HasCode u.new it.0 (put_into_code (form_in b.now).names (target_in b.now.nodes target) (expr_of u.old value.0) (code_of u.old rest.0))) }
+// Whether both are one variable of C.
+fn is_same_variable(u: &Unit, e: CExprId, other: CExprId) -> bool
+    requires one { e.0 < length u.now.exprs }
+    requires other { other.0 < length u.now.exprs }
+    ensures { result ≡ is_same_variable_tree (expr_of u.now e.0) (expr_of u.now other.0) }
 {
-    match target {
-        Target::Variable(path) => {
-            let there = b.scope().path(u, path)?;
-            assign(u, there, value, rest)
-        }
-        Target::Element { base, at } => {
-            let there = element_of(b, u, base, at)?;
-            assign(u, there, value, rest)
-        }
-        Target::Slice(_) => Ok(rest),
-        Target::Nothing => Ok(rest),
+    match (u.expr(e), u.expr(other)) {
+        (CExpr::Name(n), CExpr::Name(k)) => u.same_name(*n, *k),
+        _ => false,
     }
 }
 
-/// `place = value;`, or nothing where that is the place itself: compilers remark on it.
+/// `place = value;`, or nothing where both are one variable: compilers remark on it.
 fn set_place(
     u: &mut Unit,
     place: CExprId,
@@ -169,15 +152,15 @@ fn set_place(
     ensures grows { Grows u.old u.new }
     ensures made { IfOk result (λ it. HasCode u.new it.0 (set_place_code (expr_of u.old place.0) (expr_of u.old value.0) (code_of u.old rest.0))) }
 {
-    if is_itself(u, place, value) {
+    if is_same_variable(u, place, value) {
         Ok(rest)
     } else {
         assign(u, place, value, rest)
     }
 }
 
-/// What a target that takes a single value is set to, where it isn't what stands there.
-fn put_single(
+/// `target = value;`, where the target takes a single value. Nothing stands for a variable that is set to itself.
+pub fn put_into(
     b: &Body,
     u: &mut Unit,
     target: Target,
@@ -188,7 +171,7 @@ fn put_single(
     requires value { value.0 < length u.old.exprs }
     requires rest { rest.0 < length u.old.stmts }
     ensures grows { Grows u.old u.new }
-    ensures made { IfOk result (λ it. HasCode u.new it.0 (set_single_code (form_in b.now).names (target_in b.now.nodes target) (expr_of u.old value.0) (code_of u.old rest.0))) }
+    ensures made { IfOk result (λ it. HasCode u.new it.0 (put_into_code (form_in b.now).names (target_in b.now.nodes target) (expr_of u.old value.0) (code_of u.old rest.0))) }
 {
     match target {
         Target::Variable(path) => {
@@ -305,8 +288,8 @@ fn set_slice(
     }
 }
 
-/// A number, a truth value or a status goes to a target.
-fn set_single(
+// A number, a truth value or a status goes to a target.
+fn put_lowered(
     b: &Body,
     u: &mut Unit,
     target: Target,
@@ -318,10 +301,10 @@ fn set_single(
     requires single { IsTrue (is_single (type_of_node b.now.nodes value.0)) }
     requires rest { rest.0 < length u.old.stmts }
     ensures grows { Grows u.old u.new }
-    ensures made { IfOk result (λ it. HasCode u.new it.0 (set_single_code (form_in b.now).names (target_in b.now.nodes target) (lowered_value (form_in b.now).names (tree_of b.now.nodes value)) (code_of u.old rest.0))) }
+    ensures made { IfOk result (λ it. HasCode u.new it.0 (put_into_code (form_in b.now).names (target_in b.now.nodes target) (lowered_value (form_in b.now).names (tree_of b.now.nodes value)) (code_of u.old rest.0))) }
 {
     let single = lower_expr(b.scope(), u, value)?;
-    put_single(b, u, target, single, rest)
+    put_into(b, u, target, single, rest)
 }
 
 /// A value of any kind goes to a target.
@@ -339,9 +322,9 @@ fn set_any(
     ensures made { IfOk result (λ it. HasCode u.new it.0 (set_value_code (form_in b.now).names (target_in b.now.nodes target) (tree_of b.now.nodes value) (code_of u.old rest.0))) }
 {
     match type_at(b.typed(), value) {
-        Ty::Num { .. } => set_single(b, u, target, value, rest),
-        Ty::Flag => set_single(b, u, target, value, rest),
-        Ty::Status => set_single(b, u, target, value, rest),
+        Ty::Num { .. } => put_lowered(b, u, target, value, rest),
+        Ty::Flag => put_lowered(b, u, target, value, rest),
+        Ty::Status => put_lowered(b, u, target, value, rest),
         Ty::Slice(_) => set_slice(b, u, target, value, rest),
         Ty::Array { .. } => set_slice(b, u, target, value, rest),
         Ty::Reader => Ok(rest),
