@@ -404,6 +404,38 @@ pub func boiler.turned() base.u32 {
     return (x ~mod* 1000) ~mod+ y
 }
 """,
+    # Lockers that are moved by sums of a byte, with and without its end: the same words name two lockers once the sum is past 255.
+    "lockers": """\
+pub struct lockers?(
+    held : array[512] base.u8,
+)
+pub func lockers.put!(x: base.u8, y: base.u8, what: base.u8) {
+    this.held[(args.x as base.u16) + (args.y as base.u16)] = args.what
+}
+pub func lockers.at(n: base.u16[..= 511]) base.u8 {
+    return this.held[args.n]
+}
+pub func lockers.down!(x: base.u8, y: base.u8) {
+    this.held[args.x ~mod+ args.y] = this.held[(args.x as base.u16) + (args.y as base.u16)]
+}
+pub func lockers.up!(x: base.u8, y: base.u8) {
+    this.held[(args.x as base.u16) + (args.y as base.u16)] = this.held[args.x ~mod+ args.y]
+}
+pub func lockers.turn!(x: base.u8, y: base.u8) {
+    this.held[args.x ~mod- args.y] = this.held[args.y ~mod- args.x]
+}
+pub func lockers.is_low(x: base.u8, y: base.u8) base.bool {
+    return ((args.x ~mod+ args.y) as base.u16) == ((args.x as base.u16) + (args.y as base.u16))
+}
+pub func lockers.narrowed(x: base.u16) base.u16 {
+    var n : base.u16
+    n = args.x
+    n = n & 0xFFFF
+    n = ((n & 0xFF) as base.u8) as base.u16
+    n = n
+    return n
+}
+""",
     "dial": """\
 pub struct dial()
 pub func dial.any(x: base.u8[8 ..= 11], y: base.u8[8 ..= 11]) base.u8 {
@@ -792,6 +824,24 @@ REPORTS = [
         call r.length => 3
         call r.pause64 => ok
         call r.length => 0"""),
+    # A place is set to itself only where it is the same place: 200 + 200 is 400, and 144 modulo 256.
+    ("places that are nearly alike", "lockers", """
+        new l lockers
+        init l => ok
+        call l.put x=200 y=200 what=7 => done
+        call l.down x=200 y=200 => done
+        call l.at n=144 => 7
+        call l.put x=100 y=44 what=9 => done
+        call l.at n=400 => 7
+        call l.up x=200 y=200 => done
+        call l.at n=400 => 9
+        call l.turn x=1 y=113 => done
+        call l.at n=144 => 0
+        call l.down x=100 y=44 => done
+        call l.at n=144 => 0
+        call l.is_low x=200 y=55 => true
+        call l.is_low x=200 y=56 => false
+        call l.narrowed x=515 => 3"""),
     # Ranges of `|` and `&` are exact at both ends: 8 to 11 here.
     ("ors and ands of refined numbers", "dial", """
         new d dial
