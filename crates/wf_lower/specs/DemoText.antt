@@ -79,8 +79,8 @@ put_place = assign (m (v "a_src") "ri") (v "p_src")
 --         a_src->ri = p_src;
 --         return status_1;
 --       }
---       v_c = b_src[p_src];
 --       p_src = (p_src + 1);
+--       v_c = b_src[(p_src - 1)];
 --       if ((0 == v_c)) { a_src->ri = p_src; return 0; }
 --       if (((v_c < 48) || (57 < v_c))) { a_src->ri = p_src; return status_10; }
 --       v_c = (v_c - 48);
@@ -109,8 +109,8 @@ parse_body = function_item Static (Some text) (codes "body_parser__parse") (self
     assign (m (v "self") "r_parse") (n 1) ∷
     put_place ∷
     leave (Some (v "status_1")) ∷ []) ∷
-    assign (v "v_c") (element (v "b_src") (v "p_src")) ∷
     assign (v "p_src") (o Add (v "p_src") (n 1)) ∷
+    assign (v "v_c") (element (v "b_src") (o Sub (v "p_src") (n 1))) ∷
     when (o Eq (n 0) (v "v_c")) (put_place ∷ leave (Some (n 0)) ∷ []) ∷
     when (o Either (o Lt (v "v_c") (n 48)) (o Lt (n 57) (v "v_c"))) (put_place ∷ leave (Some (v "status_10")) ∷ []) ∷
     assign (v "v_c") (o Sub (v "v_c") (n 48)) ∷

@@ -5,14 +5,14 @@ use Rattle.wf_ast.specs.TypedPackage.{MethodTree}
 use Rattle.wf_ast.specs.TypedTree.{ValueTree, Target, Awaited, take_number, skip, write, Called}
 use Rattle.wf_lower_stmts.specs.BodyNodes.{AreAlike}
 use Rattle.wf_lower_stmts.specs.Forms.{Form, held_local}
-use Rattle.wf_lower_stmts.specs.Statements.{next_byte, step_on, answer_local, awoken_call, lower_call, put_result}
+use Rattle.wf_lower_stmts.specs.Statements.{taken_byte, step_on, answer_local, awoken_call, lower_call, put_result}
 use Rattle.c_text.specs.CTree.{ExprTree, Code}
 use Rattle.wf_exprs.specs.Words.{num}
 use Rattle.wf_exprs.specs.Names.{Names}
 use Rattle.wf_lower_stmts.proofs.AlikeLaws.{put_alike}
 
 pub awoken_alike : (f : Form) (k : ℕ) (t u : Target) → AreAlike t u → (a : ℕ) (call : Awaited) (r : Code) → awoken_call f k t a call r ≡ awoken_call f k u a call r
-awoken_alike f k t u h a (take_number reads.ReadU8) r = let e = put_alike f.names t u h (next_byte f.names a) (step_on f.names a (num 1) r) in rw e refl
+awoken_alike f k t u h a (take_number reads.ReadU8) r = let e = put_alike f.names t u h (taken_byte f.names a) r in rw e refl
 awoken_alike f k t u h a (take_number reads.ReadU16Be) r = let e = put_alike f.names t u h held_local r in rw e refl
 awoken_alike f k t u h a (take_number reads.ReadU16Le) r = let e = put_alike f.names t u h held_local r in rw e refl
 awoken_alike f k t u h a (take_number reads.ReadU32Be) r = let e = put_alike f.names t u h held_local r in rw e refl

@@ -17,7 +17,7 @@ ghost use Rattle.wf_ast.specs.NodeKinds.{node_number};
 ghost use Rattle.wf_exprs.specs.Words.{num, two as two_codes, uint_of};
 ghost use Rattle.wf_lower_stmts.specs.BodyNodes.{form_in, is_target, target_in};
 ghost use Rattle.wf_lower_stmts.specs.Forms.{count_local, held_local, stays as stays_tree, suspend as suspend_code, when as when_code};
-ghost use Rattle.wf_lower_stmts.specs.Statements.{are_all_there as are_all_there_code, awoken_call as awoken_code, begun_call as begun_code, is_big_endian as is_big_endian_form, is_used_up as is_used_up_code, next_byte as next_byte_code, put_into as put_into_code, step_on as step_on_code, take_all as take_all_code, take_byte as take_byte_code, take_bytes as take_bytes_code, with_byte as with_byte_code, written_byte as written_byte_code};
+ghost use Rattle.wf_lower_stmts.specs.Statements.{are_all_there as are_all_there_code, awoken_call as awoken_code, begun_call as begun_code, is_big_endian as is_big_endian_form, is_used_up as is_used_up_code, next_byte as next_byte_code, put_into as put_into_code, step_on as step_on_code, take_all as take_all_code, take_byte as take_byte_code, take_bytes as take_bytes_code, taken_byte as taken_byte_code, with_byte as with_byte_code, written_byte as written_byte_code};
 ghost use Rattle.wf_lower_blocks.specs.Calls.{awaited_in, is_awaited, is_one_byte as is_one_byte_form, read_all as read_all_code};
 
 use crate::any::given_on;
@@ -97,6 +97,18 @@ fn next_byte(b: &Body, u: &mut Unit, a: u32) -> Result<CExprId, NoMemory>
     let bytes = b.scope().bytes(u, a)?;
     let place = b.scope().place(u, a)?;
     element(u, bytes, place)
+}
+
+/// The byte that was taken last.
+fn taken_byte(b: &Body, u: &mut Unit, a: u32) -> Result<CExprId, NoMemory>
+    ensures grows { Grows u.old u.new }
+    ensures made { IfOk result (λ e. HasExpr u.new e.0 (taken_byte_code (form_in b.now).names a)) }
+{
+    let bytes = b.scope().bytes(u, a)?;
+    let place = b.scope().place(u, a)?;
+    let one = number(u, 1)?;
+    let before = two(b.alloc(), u, COp::Sub, place, one)?;
+    element(u, bytes, before)
 }
 
 /// The byte goes to the place, which goes on by one.
@@ -370,8 +382,8 @@ fn take_bytes(
     Ok(code)
 }
 
-/// The byte at the place goes to the target.
-fn put_next(
+/// The byte that was taken goes to the target.
+fn put_taken(
     b: &Body,
     u: &mut Unit,
     target: Target,
@@ -381,9 +393,9 @@ fn put_next(
     requires target { is_target b.now.nodes target ≡ true }
     requires rest { rest.0 < length u.old.stmts }
     ensures grows { Grows u.old u.new }
-    ensures made { IfOk result (λ code. HasCode u.new code.0 (put_into_code (form_in b.now).names (target_in b.now.nodes target) (next_byte_code (form_in b.now).names a) (code_of u.old rest.0))) }
+    ensures made { IfOk result (λ code. HasCode u.new code.0 (put_into_code (form_in b.now).names (target_in b.now.nodes target) (taken_byte_code (form_in b.now).names a) (code_of u.old rest.0))) }
 {
-    let byte = next_byte(b, u, a)?;
+    let byte = taken_byte(b, u, a)?;
     put_into(b, u, target, byte, rest)
 }
 
@@ -401,8 +413,8 @@ fn read_byte(
     ensures grows { Grows u.old u.new }
     ensures made { IfOk result (λ code. HasCode u.new code.0 (awoken_code (form_in b.now) k (target_in b.now.nodes target) a (take_number ReadU8) (code_of u.old rest.0))) }
 {
+    let rest = put_taken(b, u, target, a, rest)?;
     let rest = step_by_one(b, u, a, rest)?;
-    let rest = put_next(b, u, target, a, rest)?;
     wait(b, u, k, a, SHORT_READ, rest)
 }
 

@@ -26,7 +26,7 @@ use Rattle.wf_exprs.specs.Words.{num, two, args}
 use Rattle.wf_exprs.specs.Exprs.{Pair, path_code, taken, bare, lowered_expr, given, lowered_slice, lowered_status, lowered_cond, status_constant, begins_with, io_code, place_code, end_code, there}
 use Rattle.wf_lower_stmts.specs.Forms.{Form, status_local, held_local, size_local, count_local, is_io, is_kept, stays, holds_something, counts_bytes, keeps, place_in, end_of, when, put, get, save_locals, restore_locals, save_count, restore_count, save_started, restore_started, give, suspend, resume_here}
 use Rattle.wf_lower_stmts.specs.Lower.{lower, continues, again_here, other_kind, returns, ending, ending_of, has_result, tail_of, top}
-use Rattle.wf_lower_stmts.specs.Statements.{next_byte, step_on, is_big_endian, with_byte, slice_bits, bytes_for, answer_local, is_wanted, put_into, is_same_variable, set_place, set_slice, set_value, take_byte, take_bytes, written_byte, are_all_there, take_all, begun_call, awoken_call, lower_written, value_codes, values_codes, receiver_code, is_passed, call_into, hand_on, put_result, handed_call, plain_call, give_status, give_value, begun, awoken, lower_point, lower_plain, lower_simple}
+use Rattle.wf_lower_stmts.specs.Statements.{next_byte, taken_byte, step_on, is_big_endian, with_byte, slice_bits, bytes_for, answer_local, is_wanted, put_into, is_same_variable, set_place, set_slice, set_value, take_byte, take_bytes, written_byte, are_all_there, take_all, begun_call, awoken_call, lower_written, value_codes, values_codes, receiver_code, is_passed, call_into, hand_on, put_result, handed_call, plain_call, give_status, give_value, begun, awoken, lower_point, lower_plain, lower_simple}
 use Rattle.wf_lower_laws.specs.BracketLaw.{num_within, slice_within, cond_within, value_within, target_within, awaited_within, written_within, simple_within, is_chained, block_within}
 use Rattle.wf_lower_laws.proofs.OpenBrackets.{ExprOpens, ArgsOpen, ValueOpens, CodeOpens}
 use Rattle.wf_lower_laws.proofs.ExprBrackets.{ExprBy, by_more, by_if, by_two, by_unary, by_cast, by_element, by_choice, by_num, by_path, by_constant, by_status, by_begins, by_number_ahead, at_least_one, PairBy, by_widened, num_by, slice_by, given_by, cond_by}
@@ -215,6 +215,9 @@ module _ (d : ℕ) where
   next_by : (names : Names) (a : ℕ) → ExprBy 1 (next_byte names a)
   next_by names a = by_element 0 1 _ _ (omega arith) (easy 1 _ (λ m. tt {0})) (easy 0 _ (λ m. tt {0}))
 
+  last_by : (names : Names) (a : ℕ) → ExprBy 2 (taken_byte names a)
+  last_by names a = by_element 1 2 _ _ (omega arith) (easy 2 _ (λ m. tt {0})) (by_two 0 1 Sub (place_code names a) (num 1) (omega arith) (easy 0 (place_code names a) (λ m. tt {0})) (by_num 0 1))
+
   with_by : (big : Bool) (names : Names) (a : ℕ) → ExprBy 4 (with_byte big (next_byte names a))
   with_by true names a =
       by_two 3 4 Add _ _ (omega arith) (by_two 0 3 Shl _ _ (omega arith) (easy 0 _ (λ m. tt {0})) (by_num 0 8)) (by_more 1 3 _ (omega arith) (next_by names a))
@@ -311,7 +314,7 @@ module _ (d : ℕ) where
   awoken_calls_by : (f : Form) (j : ℕ) (t : Target) (a : ℕ) (call : Awaited) (rest : Code) → target_within d t ≡ true → CodeBy k_max rest → CodeBy k_max (awoken_call f j t a call rest)
   awoken_calls_by f j t a (take_number ReadU8) rest w i =
       code_when 1 k_max _ _ _ (omega arith) (used_by 1 f.names a (omega arith)) (suspends_by 1 f j _ finish (by_constant f.names 1 short_read) (code_finish 1))
-      (intos_by f.names t (next_byte f.names a) _ w (by_more 1 k_max _ (omega arith) (next_by f.names a)) (step_by f.names a (num 1) rest (by_num (e_max + 1) 1) i))
+      (step_by f.names a (num 1) _ (by_num (e_max + 1) 1) (intos_by f.names t (taken_byte f.names a) rest w (by_more 2 k_max _ (omega arith) (last_by f.names a)) i))
   awoken_calls_by f j t a (take_number ReadU16Be) rest w i = taken_by f j t a ReadU16Be short_read rest w i
   awoken_calls_by f j t a (take_number ReadU16Le) rest w i = taken_by f j t a ReadU16Le short_read rest w i
   awoken_calls_by f j t a (take_number ReadU32Be) rest w i = taken_by f j t a ReadU32Be short_read rest w i

@@ -18,7 +18,7 @@ use Rattle.wf_lower_laws.proofs.Apart.{right_or}
 use Rattle.wf_exprs.specs.Exprs.{Pair, path_code, lowered_expr, given, lowered_slice, lowered_status, lowered_cond, status_constant}
 use Rattle.wf_lower_stmts.specs.Forms.{Form, status_local, size_local, held_local, count_local, is_io, is_kept, stays, holds_something, counts_bytes, keeps, when, put, get, save_locals, restore_locals, save_count, restore_count, save_started, restore_started, give, suspend}
 use Rattle.wf_lower_stmts.specs.Lower.{returns, ending, ending_of, has_result, tail_of, top}
-use Rattle.wf_lower_stmts.specs.Statements.{next_byte, step_on, answer_local, put_into, is_same_variable, set_place, set_slice, set_value, take_bytes, are_all_there, take_all, begun_call, awoken_call, lower_written, is_passed, call_into, hand_on, put_result, handed_call, plain_call, give_status, give_value, begun, awoken, lower_plain}
+use Rattle.wf_lower_stmts.specs.Statements.{taken_byte, step_on, answer_local, put_into, is_same_variable, set_place, set_slice, set_value, take_bytes, are_all_there, take_all, begun_call, awoken_call, lower_written, is_passed, call_into, hand_on, put_result, handed_call, plain_call, give_status, give_value, begun, awoken, lower_plain}
 
 pub data Straight : (rest code : Code) → Type 0 where
   over : {rest : Code} → Straight rest rest
@@ -141,7 +141,7 @@ taken f j t a form test status_code value rest =
 
 awoken_calls : (f : Form) (j : ℕ) (t : Target) (a : ℕ) (call : Awaited) (rest : Code) → Straight rest (awoken_call f j t a call rest)
 awoken_calls f j t a (take_number ReadU8) rest =
-    guarded _ _ _ (suspends f j _ finish) (follows _ (step_on f.names a (num 1) rest) rest (intos f.names t (next_byte f.names a) _) (assigned _ _ _ over))
+    guarded _ _ _ (suspends f j _ finish) (assigned _ _ _ (intos f.names t (taken_byte f.names a) rest))
 awoken_calls f j t a (take_number ReadU16Be) rest = taken f j t a ReadU16Be _ _ _ rest
 awoken_calls f j t a (take_number ReadU16Le) rest = taken f j t a ReadU16Le _ _ _ rest
 awoken_calls f j t a (take_number ReadU32Be) rest = taken f j t a ReadU32Be _ _ _ rest

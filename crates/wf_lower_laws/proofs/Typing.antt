@@ -34,7 +34,7 @@ use Rattle.wf_exprs.specs.Exprs.{bare, path_code, lowered_expr, lowered_slice, g
 use Rattle.wf_exprs.specs.Reads.{expr_reads, code_reads}
 use Rattle.wf_lower_stmts.specs.Forms.{Form, status_local, got_local, size_local, held_local, count_local, is_io, is_kept, local_code, saved_code, stays, holds_something, counts_bytes, keeps, place_in, end_of, when, put, get, save_locals, restore_locals, save_count, save_started, give, suspend, resume_here}
 use Rattle.wf_lower_stmts.specs.Lower.{lower, continues as continues_in, again_here, behind_here, other_kind, returns, ending, ending_of, has_result, tail_of, top}
-use Rattle.wf_lower_stmts.specs.Statements.{put_into, is_same_variable, set_place, set_slice, set_value, step_on, next_byte, is_used_up, is_big_endian, with_byte, take_byte, take_bytes, written_byte, are_all_there, take_all, begun_call, awoken_call, slice_bits, bytes_for, least_size, move, lower_written, value_codes, values_codes, is_passed, receiver_code, callee_name, answer_local, is_wanted, call_into, hand_on, put_result, handed_call, plain_call, give_status, give_value, lower_point, lower_plain, lower_simple, is_suspension as is_held_back}
+use Rattle.wf_lower_stmts.specs.Statements.{put_into, is_same_variable, set_place, set_slice, set_value, step_on, next_byte, taken_byte, is_used_up, is_big_endian, with_byte, take_byte, take_bytes, written_byte, are_all_there, take_all, begun_call, awoken_call, slice_bits, bytes_for, least_size, move, lower_written, value_codes, values_codes, is_passed, receiver_code, callee_name, answer_local, is_wanted, call_into, hand_on, put_result, handed_call, plain_call, give_status, give_value, lower_point, lower_plain, lower_simple, is_suspension as is_held_back}
 use Rattle.wf_lower.specs.Bodies.{params_of, result_of}
 use Rattle.wf_lower_laws.specs.KindLaw.{IsNum, IsPointer, IsText, Declares, KeepKinds, has_op, has_question, num_served, slice_served, end_served, status_served, cond_served}
 use Rattle.wf_lower_laws.proofs.Apart.{left_or, right_or}
@@ -483,6 +483,9 @@ module _ (c : Checked) (f : Form) (Settled : List ℕ → Type 0) (CallOk : List
     element_num8 : (a : ℕ) → Buffer a → IsNum S (next_byte f.names a)
     element_num8 a b = element_num 8 _ _ b.cells.bytes (place_num a b.ty b.cells)
 
+    taken_num8 : (a : ℕ) → Buffer a → IsNum S (taken_byte f.names a)
+    taken_num8 a b = element_num 8 _ _ b.cells.bytes (two_kind S Sub (place_code f.names a) (num 1) (place_num a b.ty b.cells) (num_kind S 1))
+
     step_ok : (a : ℕ) (e : ExprTree) (rest : Code) → Buffer a → IsNum S e → Ok rest → Ok (step_on f.names a e rest)
     step_ok a e rest b h ok =
         ok_number c Settled CallOk (place_code f.names a) (two Add (place_code f.names a) e) rest b.cells.place (two_kind S Add (place_code f.names a) e (place_num a b.ty b.cells) h) ok
@@ -601,7 +604,7 @@ module _ (c : Checked) (f : Form) (Settled : List ℕ → Type 0) (CallOk : List
     awoken_call_ok k t a (take_number ReadU8) rest co w ok =
         let b = (well_taken t a ReadU8 held_local w held_num).0 in
         ok_when c Settled CallOk _ _ _ (used_ok a b) (suspends_ok k (status_constant short_read) finish co (constant_ok short_read (s.base short_read (inl refl))) done)
-        (into_ok t (next_byte f.names a) _ (well_taken t a ReadU8 (next_byte f.names a) w (element_num8 a b)).1 (step_ok a (num 1) rest b (num_kind S 1) ok))
+        (step_ok a (num 1) _ b (num_kind S 1) (into_ok t (taken_byte f.names a) rest (well_taken t a ReadU8 (taken_byte f.names a) w (taken_num8 a b)).1 ok))
     awoken_call_ok k t a (take_number ReadU16Be) rest co w ok = let p = well_taken t a ReadU16Be held_local w held_num in taken_ok k t a ReadU16Be rest co p.0 p.1 ok
     awoken_call_ok k t a (take_number ReadU16Le) rest co w ok = let p = well_taken t a ReadU16Le held_local w held_num in taken_ok k t a ReadU16Le rest co p.0 p.1 ok
     awoken_call_ok k t a (take_number ReadU32Be) rest co w ok = let p = well_taken t a ReadU32Be held_local w held_num in taken_ok k t a ReadU32Be rest co p.0 p.1 ok

@@ -17,7 +17,7 @@ use Rattle.wf_exprs.specs.Words.{num, two, of_self, args}
 use Rattle.wf_exprs.specs.Exprs.{Pair, path_code, lowered_expr, given, lowered_slice, lowered_status, lowered_cond, status_constant, begins_with}
 use Rattle.wf_lower_stmts.specs.Forms.{Form, status_local, size_local, held_local, count_local, is_io, is_kept, stays, holds_something, counts_bytes, keeps, when, put, get, save_locals, save_count, save_started, give, suspend}
 use Rattle.wf_lower_stmts.specs.Lower.{returns, ending, ending_of, has_result, tail_of, top}
-use Rattle.wf_lower_stmts.specs.Statements.{next_byte, step_on, callee_name, receiver_code, values_codes, answer_local, is_wanted, is_suspension, put_into, is_same_variable, set_place, set_slice, set_value, take_bytes, written_byte, begun_call, awoken_call, lower_written, is_passed, call_into, hand_on, put_result, handed_call, plain_call, give_status, give_value, begun, awoken, lower_plain}
+use Rattle.wf_lower_stmts.specs.Statements.{next_byte, taken_byte, step_on, callee_name, receiver_code, values_codes, answer_local, is_wanted, is_suspension, put_into, is_same_variable, set_place, set_slice, set_value, take_bytes, written_byte, begun_call, awoken_call, lower_written, is_passed, call_into, hand_on, put_result, handed_call, plain_call, give_status, give_value, begun, awoken, lower_plain}
 
 over : (p q : Option Place) → p ≡ None → first_of p q ≡ q
 over None q e = refl
@@ -114,8 +114,8 @@ module _ (l : Label) where
 
   awoken_calls : (f : Form) (j : ℕ) (t : Target) (a : ℕ) (call : Awaited) (rest : Code) → Passes (awoken_call f j t a call rest) rest
   awoken_calls f j t a (take_number ReadU8) rest k =
-      waits f j short_read (put_into f.names t (next_byte f.names a) (step_on f.names a (num 1) rest)) k (behind finish (put_into f.names t (next_byte f.names a) (step_on f.names a (num 1) rest)) k)
-      ∙ intos f.names t (next_byte f.names a) (step_on f.names a (num 1) rest) k
+      waits f j short_read (step_on f.names a (num 1) (put_into f.names t (taken_byte f.names a) rest)) k (behind finish (step_on f.names a (num 1) (put_into f.names t (taken_byte f.names a) rest)) k)
+      ∙ intos f.names t (taken_byte f.names a) rest k
   awoken_calls f j t a (take_number ReadU16Be) rest k = taken f j t a ReadU16Be rest k
   awoken_calls f j t a (take_number ReadU16Le) rest k = taken f j t a ReadU16Le rest k
   awoken_calls f j t a (take_number ReadU32Be) rest k = taken f j t a ReadU32Be rest k

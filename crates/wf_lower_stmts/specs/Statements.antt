@@ -61,12 +61,16 @@ set_value names target (elements t) rest = set_slice names target (lowered_slice
 set_value names target value rest = rest
 
 -- Base calls that suspend. `begun` stands before the point's label, and `awoken` after it: a resumed call goes on
--- with what it has.
+-- with what it has. A target is found once its byte is taken, since its index may ask how many are left.
 abbrev pub step_on : Names → (io_arg : ℕ) → (bytes : ExprTree) → (rest : Code) → Code
 step_on names a bytes rest = c.assign (place_code names a) (two Add (place_code names a) bytes) rest
 
 abbrev pub next_byte : Names → (io_arg : ℕ) → ExprTree
 next_byte names a = element (bytes_code names a) (place_code names a)
+
+-- The byte that was taken last.
+abbrev pub taken_byte : Names → (io_arg : ℕ) → ExprTree
+taken_byte names a = element (bytes_code names a) (two Sub (place_code names a) (num 1))
 
 abbrev pub is_used_up : Names → (io_arg : ℕ) → ExprTree
 is_used_up names a = two Ge (place_code names a) (end_code names a)
@@ -114,7 +118,7 @@ begun_call names a (write byte) rest = if stays byte then rest else c.assign hel
 abbrev pub awoken_call : Form → (k : ℕ) → Target → (io_arg : ℕ) → Awaited → (rest : Code) → Code
 awoken_call f k target a (take_number ReadU8) rest =
     when (is_used_up f.names a) (suspend f k (status_constant short_read) finish)
-    (put_into f.names target (next_byte f.names a) (step_on f.names a (num 1) rest))
+    (step_on f.names a (num 1) (put_into f.names target (taken_byte f.names a) rest))
 awoken_call f k target a (take_number form) rest =
     take_bytes f.names a form (bytes_of (read_width form))
     (when (two Lt count_local (num (bytes_of (read_width form)))) (suspend f k (status_constant short_read) finish)
