@@ -1016,17 +1016,62 @@ module _ (c : Checked) (f : Form) (Settled : List ℕ → Type 0) (CallOk : List
     is_single (to_slice at bits path) = false
     is_single t = true
 
-    result_reads_so : (t : Target) (e : Option ExprTree) (rest : Code) → is_single t ≡ true → (name : List ℕ) → is_result_of name (if is_wanted t then e else None) ≡ true → code_reads name (put_result f.names t e rest) ≡ true
-    result_reads_so to_nothing e rest k name h = absurd (cc h)
-    result_reads_so (to_slice at bits path) e rest k name h = absurd (cc k)
-    result_reads_so (to_number at of path) None rest k name h = absurd (cc h)
-    result_reads_so (to_number at of path) (Some e) rest k name h = assigned_reads name (path_code f.names path) e rest h
-    result_reads_so (to_element at of cells index) None rest k name h = absurd (cc h)
-    result_reads_so (to_element at of cells index) (Some e) rest k name h = assigned_reads name (c_tree.element (lowered_slice f.names cells).pointer (lowered_expr f.names index)) e rest h
-    result_reads_so (to_flag at path) None rest k name h = absurd (cc h)
-    result_reads_so (to_flag at path) (Some e) rest k name h = assigned_reads name (path_code f.names path) e rest h
-    result_reads_so (to_status at path) None rest k name h = absurd (cc h)
-    result_reads_so (to_status at path) (Some e) rest k name h = assigned_reads name (path_code f.names path) e rest h
+    -- What a call gives comes from a local that no variable of the source is.
+    abbrev IsApart : Option ExprTree → Type 0
+    IsApart None = Unit {0}
+    IsApart (Some e) = (path : Path) → is_same_variable (path_code f.names path) e ≡ false
+
+    apart_status : IsApart (Some status_local)
+    apart_status (local n) = refl
+    apart_status (arg n) = refl
+    apart_status (field n) = refl
+
+    apart_got : IsApart (Some got_local)
+    apart_got (local n) = refl
+    apart_got (arg n) = refl
+    apart_got (field n) = refl
+
+    apart_answer : (mark : Mark) (gives : Option Ty) → IsApart (answer_local mark gives)
+    apart_answer Coroutine gives = apart_status
+    apart_answer Pure None = tt
+    apart_answer Pure (Some types.Status) = apart_status
+    apart_answer Pure (Some types.Flag) = apart_got
+    apart_answer Pure (Some (types.Num width lo hi)) = apart_got
+    apart_answer Pure (Some types.Reader) = apart_got
+    apart_answer Pure (Some types.Writer) = apart_got
+    apart_answer Pure (Some (types.Slice width)) = apart_got
+    apart_answer Pure (Some (types.Array width lo hi count)) = apart_got
+    apart_answer Pure (Some (types.Part part)) = apart_got
+    apart_answer Impure None = tt
+    apart_answer Impure (Some types.Status) = apart_status
+    apart_answer Impure (Some types.Flag) = apart_got
+    apart_answer Impure (Some (types.Num width lo hi)) = apart_got
+    apart_answer Impure (Some types.Reader) = apart_got
+    apart_answer Impure (Some types.Writer) = apart_got
+    apart_answer Impure (Some (types.Slice width)) = apart_got
+    apart_answer Impure (Some (types.Array width lo hi count)) = apart_got
+    apart_answer Impure (Some (types.Part part)) = apart_got
+
+    set_reads : (name : List ℕ) (place e : ExprTree) (rest : Code) → is_same_variable place e ≡ false → is_variable name e ≡ true → code_reads name (set_place place e rest) ≡ true
+    set_reads name place e rest a h = by (is_same_variable place e) a
+      where
+        by : (same : Bool) → same ≡ false → code_reads name (if same then rest else c_tree.assign place e rest) ≡ true
+        by true g = absurd (cc g)
+        by false g = assigned_reads name place e rest h
+
+    result_reads_so : (t : Target) (e : Option ExprTree) (rest : Code) → is_single t ≡ true → IsApart e
+        → (name : List ℕ) → is_result_of name (if is_wanted t then e else None) ≡ true → code_reads name (put_result f.names t e rest) ≡ true
+    result_reads_so to_nothing e rest k a name h = absurd (cc h)
+    result_reads_so (to_slice at bits path) e rest k a name h = absurd (cc k)
+    result_reads_so (to_number at of path) None rest k a name h = absurd (cc h)
+    result_reads_so (to_number at of path) (Some e) rest k a name h = set_reads name (path_code f.names path) e rest (a path) h
+    result_reads_so (to_element at of cells index) None rest k a name h = absurd (cc h)
+    result_reads_so (to_element at of cells index) (Some e) rest k a name h =
+        set_reads name (c_tree.element (lowered_slice f.names cells).pointer (lowered_expr f.names index)) e rest refl h
+    result_reads_so (to_flag at path) None rest k a name h = absurd (cc h)
+    result_reads_so (to_flag at path) (Some e) rest k a name h = set_reads name (path_code f.names path) e rest (a path) h
+    result_reads_so (to_status at path) None rest k a name h = absurd (cc h)
+    result_reads_so (to_status at path) (Some e) rest k a name h = set_reads name (path_code f.names path) e rest (a path) h
 
     none_single : (t : Target) → has_none t ≡ true → is_single t ≡ true
     none_single to_nothing w = refl
@@ -1112,7 +1157,7 @@ module _ (c : Checked) (f : Form) (Settled : List ℕ → Type 0) (CallOk : List
         let P : Mark → Type 0 = λ z. takes_answer x t keep z callee.gives ≡ true in
         let a = answer_taken t keep callee.mark callee.gives (subst P (marks mark callee.mark p.0) v.0) k.result_is in
         into_call_ok (if is_wanted t then answer_local callee.mark callee.gives else None) called callee ts _ k u.0 (wanted (is_wanted t) (answer_local callee.mark callee.gives) (answer_kept callee.mark callee.gives k.result_is))
-        (result_reads_so t (answer_local callee.mark callee.gives) rest a.single) (results_ok t (answer_local callee.mark callee.gives) rest a.taken ok)
+        (result_reads_so t (answer_local callee.mark callee.gives) rest a.single (apart_answer callee.mark callee.gives)) (results_ok t (answer_local callee.mark callee.gives) rest a.taken ok)
       where
         marks : (a b : Mark) → same_mark a b ≡ true → a ≡ b
         marks Pure Pure g = refl
