@@ -24,7 +24,7 @@ from second_opinion.source_machine import WIDTHS
 from second_opinion.trees import Method, SliceType, Struct
 
 # How many packages are tried beside each random one.
-ALIKE = 8
+ALIKE = 4
 EDGES = [0, 1, 2, 3, 4, 5, 7, 8, 9, 100, 254, 255, 256, 65535, 2 ** 32 - 2, 2 ** 32 - 1, 2 ** 64 - 1]
 
 
@@ -47,16 +47,30 @@ class Writer:
             self.lines.append(f"{word} p{number} {name}")
             if source.random() < .9:
                 self.lines.append(f"init p{number}")
-        self.lines += [f"buf b{number} {source.choice([0, 1, 2, 3, 4, 6, 12])}" for number in range(3)]
+        self.lines += [f"buf b{number} {source.choice([0, 1, 2, 3, 4, 6, 12, 30, 30])}" for number in range(3)]
         self.lines += [f"bytes a{number} {hex_of(source, [0, 1, 2, 4])}" for number in range(2)]
 
     def write(self, count):
         for _ in range(count if self.receivers else 0):
-            self.source.choice([self.call] * 10 + [self.put] * 4 + [self.other])()
+            self.source.choice([self.call] * 8 + [self.again] * 5 + [self.put] * 4 + [self.other])()
+        self.ask()
         return "".join(line + "\n" for line in self.lines).encode()
 
     def put(self):
         self.lines.append(f"put b{self.source.randrange(3)} {hex_of(self.source, [0, 1, 1, 2, 4])}")
+
+    def again(self):
+        """A call of before once more: where it waits, it goes on with what came since."""
+        calls = [line for line in self.lines if line.startswith("call")]
+        for _ in range(self.source.choice([1, 1, 2, 3]) if calls else 0):
+            if self.source.random() < .7:
+                self.put()
+            self.lines.append(calls[-1])
+
+    def ask(self):
+        """What is seen of the receivers at the end: their methods that have neither a mark nor arguments."""
+        self.lines += [f"call {receiver}.{it.name}" for receiver, name in self.receivers.items() for it in self.methods[name]
+                       if not it.mark and not it.arguments]
 
     def other(self):
         number = self.source.randrange(3)
@@ -67,7 +81,8 @@ class Writer:
         name = self.source.choice(list(self.receivers))
         if not self.methods[self.receivers[name]]:
             return
-        method = self.source.choice(self.methods[self.receivers[name]])
+        methods = self.methods[self.receivers[name]]
+        method = self.source.choice(methods + [it for it in methods if it.mark == "?"] * 2)
         buffers, arrays = (self.source.sample(names, len(names)) for names in (["b0", "b1", "b2", "null"], ["a0", "a1", "null"]))
         words = [f"{it.name}={self.value(it.type, buffers, arrays)}" for it in method.arguments]
         self.lines.append(" ".join([f"call {name}.{method.name}", *self.source.sample(words, len(words))]))

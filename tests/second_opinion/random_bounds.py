@@ -1,5 +1,6 @@
 """Random packages whose facts stand at the edge of what the rules of bounds accept. A statement that needs something is written
 under a condition that just gives it, or just doesn't, and now and then something comes between that may change it.
+Beside them stand statements that a compiler might take for others (random_likes.py), and at a method's end its locals change fields.
 
 A statement is a line, or a list of lines and blocks; a block is a `Block`, a list of statements. So a statement that is refused
 can be taken out of a package.
@@ -9,7 +10,8 @@ import re
 from . import judged
 from .bounds import Bounds
 from .facts import Package, Unmet
-from .random_needs import LOCALS, STATUSES, WIDTHS, NeedsWriter
+from .random_likes import MANY, READS, LikesWriter, whole
+from .random_needs import LOCALS, STATUSES, WIDTHS, Block
 from .trees import Method
 
 SUSPENSIONS = ['"$wait"', 'base."$short read"']
@@ -21,11 +23,6 @@ VARIABLES = [f"var {local} : {WIDTHS[bits]}" for local, bits in LOCALS]
 VARIABLES += ["var t : base.bool", "var l : slice base.u8", "var q : base.status"]
 WORD = re.compile(r"\w+")
 PIECES = re.compile(r"(?<=[ (\[])(\d+|<=|>=|<|>|==|<>|and|or)(?=[ )\],.]|$)")
-READS = [("read_u8", 8), ("read_u8", 8), ("read_u16le", 16), ("read_u16be", 16), ("read_u32le", 32), ("read_u64be", 64)]
-
-
-class Block(list):
-    """Statements."""
 
 
 def lines_of(block):
@@ -79,7 +76,7 @@ def repaired(package):
     return package
 
 
-class BoundsWriter(NeedsWriter):
+class BoundsWriter(LikesWriter):
     """Writes one package."""
 
     # Declarations
@@ -94,12 +91,13 @@ class BoundsWriter(NeedsWriter):
                  f"pri const K : base.u8 = {self.high}", f"pri const M : base.u32 = {self.length}",
                  f"{self.one_of('pub', 'pri')} struct inner?(n : base.u32, m : {refined}, p : base.u8, f : base.bool, {arrays})",
                  f"pub struct s?(n : base.u32, m : {refined}, p : base.u8, o : base.u64, f : base.bool, q : base.status, {arrays}, "
-                 "b : array[256] base.u8, h : inner)"]
+                 f"b : array[{MANY}] base.u8, h : inner)"]
         self.callees = {}
         methods = [method for owner in ("inner", "s") for method in self.fixed(owner)]
         for owner in ("inner", "s"):
             for name, mark in (("pure", ""), ("set", "!"), ("more", "?")):
                 methods.append(self.method(owner, name, mark, "pub" if owner == "inner" else self.one_of("pub", "pri")))
+        methods += [self.tell(owner) for owner in ("inner", "s")]
         methods += [self.method("s", name, mark, "pub") for name, mark in (("act", "!"), ("go", "?"), ("run", "?"))]
         return Block([*lines, *methods])
 
@@ -117,7 +115,7 @@ class BoundsWriter(NeedsWriter):
     def method(self, owner, name, mark, public):
         self.owner, self.mark, self.loops, self.gives = owner, mark, [], None
         kinds = [("i", "base.u32"), ("j", "base.u32"), ("k", "base.u8"), ("e", f"base.u8[{self.least} ..= {self.high}]"),
-                 ("w", "base.io_writer"), ("r", "base.io_reader"), ("g", "slice base.u8"), ("z", "base.bool")]
+                 ("w", "base.io_writer"), ("r", "base.io_reader"), ("s", "base.io_reader"), ("g", "slice base.u8"), ("z", "base.bool")]
         kept = self.random.sample(kinds, self.random.randint(4, 8)) if name in ("act", "go", "run") else \
             self.random.sample(kinds, self.random.randint(1, 4))
         self.arguments = dict(kept)
@@ -127,12 +125,21 @@ class BoundsWriter(NeedsWriter):
             self.most = self.high if "[" in result else 2 ** self.gives - 1
         listed = ", ".join(f"{argument}: {kind}" for argument, kind in self.arguments.items())
         head = f"{public} func {owner}.{name}{mark}({listed}){result} {{"
-        count = self.random.randint(5, 12) if name in ("act", "go", "run") else self.random.randint(1, 3)
-        body = Block(self.starts() + self.statements(count, 3))
-        end = [self.one_of("return 0", f"return {min(self.most, self.high)}")] if self.gives else []
+        count = self.random.randint(4, 8) if name in ("act", "go", "run") else self.random.randint(1, 3)
+        first = self.alike(3) if name in ("act", "go", "run") and self.chance(.6) else []
+        body = Block(self.starts() + first + self.statements(count, 3))
+        body += whole(self.shown(set(WORD.findall(text_of(body))))) if mark else []
+        end = [f"return {self.one_of(*self.results())}"] if self.gives else []
         self.callees[owner, name] = (mark, dict(self.arguments), self.gives)
-        words = set(WORD.findall(text_of(body)))
+        words = set(WORD.findall(text_of([body, *end])))
         return [head, *[line for line in VARIABLES if line.split()[1] in words], body, *end, "}"]
+
+    def results(self):
+        """What the method may give back."""
+        locals_of = [local for local, bits in LOCALS if bits == self.gives]
+        fields = {8: ["this.p", "this.m", "this.a[0]"], 32: ["this.n"]}[self.gives]
+        found = [*locals_of, *locals_of, *fields]
+        return [str(min(self.most, self.high)), *(f"{path} % {self.high + 1}" if self.most == self.high else path for path in found)]
 
     def starts(self):
         """Locals that aren't 0."""
@@ -159,9 +166,10 @@ class BoundsWriter(NeedsWriter):
                 found += [self.call()[0]] if self.call() else []
         if about in ("l", "args.g", "l.length()", "args.g.length()"):
             found += [f"l = {self.one_of('this.a[1 ..]', *self.bases())}"] * 2
-        if "args.r" in about and self.may("!"):
-            found += ["this.eat!(r: args.r)", "args.r.skip_u32_fast!(actual: 1, worst_case: 1)",
-                      "args.r.skip_u32_fast!(actual: this.m as base.u32, worst_case: M)"]
+        for io in self.readers() if self.may("!") else []:
+            if io in about:
+                found += [f"this.eat!(r: {io})", f"{io}.skip_u32_fast!(actual: 1, worst_case: 1)",
+                          f"{io}.skip_u32_fast!(actual: this.m as base.u32, worst_case: M)"]
         if "args.w" in about and self.may("!"):
             found += ["this.emit!(w: args.w)", "args.w.write_u8_fast!(a: 7)", "v = args.w.copy_from_slice!(s: this.a[..])"]
         if self.may("?"):
@@ -182,10 +190,10 @@ class BoundsWriter(NeedsWriter):
     def waiting(self, depth=0):
         """A statement that may suspend."""
         found = [f"yield? {self.one_of(*SUSPENSIONS)}"]
-        if "r" in self.arguments:
-            name, bits = self.one_of(*READS)
-            found += [self.assigned(bits, f"args.r.{name}?()")] * 3 + [f"args.r.skip_u32?(n: {self.one_of('x', 1, 2, self.number(32))})"]
-            found += ["this.a[0] = args.r.read_u8?()", "this.p = args.r.read_u8?()"]
+        if self.readers():
+            io, (name, bits) = self.one_of(*self.readers()), self.one_of(*READS)
+            found += [self.assigned(bits, f"{io}.{name}?()"), self.assigned(8, f"{io}.read_u8?()")] * 2
+            found += [f"{io}.skip_u32?(n: {self.one_of('x', 1, 2, 3, self.number(32))})", f"this.a[0] = {io}.read_u8?()", f"this.p = {io}.read_u8?()"]
         if "w" in self.arguments:
             found += [f"args.w.write_u8?(a: {self.number(8)})"] * 2
         called = self.call()
@@ -205,7 +213,7 @@ class BoundsWriter(NeedsWriter):
         choices = [self.plain, self.plain]
         if depth:
             choices += [self.through_slice, self.guarded, self.guarded, self.guarded, self.guarded, self.refused, self.merge, self.loop,
-                        self.loop, self.branch]
+                        self.loop, self.branch, self.alike, self.alike, self.alike]
             choices += [self.waiting, self.waiting] if self.mark == "?" else []
             choices += [self.jump] if self.loops and self.chance(.3) else []
         return self.one_of(*choices)(depth)
@@ -261,7 +269,7 @@ class BoundsWriter(NeedsWriter):
             return self.jump(0)
         if self.mark == "?":
             return f"return {self.one_of(*STATUSES)}"
-        return f"return {self.one_of(0, 0, min(self.most, self.high))}"
+        return f"return {self.one_of(0, *self.results())}"
 
     def refused(self, depth):
         """A statement after blocks that leave where what it needs isn't so."""

@@ -3,7 +3,7 @@ methods have the same names, of which `NeedsWriter` knows those that stand in th
 
 WIDTHS = {8: "base.u8", 16: "base.u16", 32: "base.u32", 64: "base.u64"}
 STATUSES = ["ok", '"#bad"', '"$wait"', '"@note"', 'base."$short read"']
-LOCALS = [("x", 32), ("y", 32), ("c", 8), ("u", 16), ("v", 64)]
+LOCALS = [("x", 32), ("y", 32), ("c", 8), ("d", 8), ("u", 16), ("v", 64)]
 STEPS = {"": ["pure"], "!": ["pure", "set", "fill", "eat", "emit"], "?": ["pure", "set", "fill", "eat", "emit", "more", "more", "go"]}
 PLAIN_AXIOMS = [
     ("<", "a < b: b > a", [(1, ">", 0)]), ("<", "a < b: a < c; c < b", [(0, "<", 2), (2, "<", 1)]),
@@ -14,6 +14,10 @@ PLAIN_AXIOMS = [
     ("<=", "a <= b: a == c; c <= b", [(0, "==", 2), (2, "<=", 1)]), (">=", "a >= b: b <= a", [(1, "<=", 0)]),
     ("<=", "a <= b: a < b", [(0, "<", 1)]), ("==", "a == b: a <= b; b <= a", [(0, "<=", 1), (1, "<=", 0)]),
 ]
+
+
+class Block(list):
+    """Statements."""
 
 
 class NeedsWriter:
@@ -45,7 +49,10 @@ class NeedsWriter:
         return found
 
     def ios(self):
-        return [f"args.{name}" for name in ("r", "w") if name in self.arguments]
+        return [f"args.{name}" for name in ("r", "s", "w") if name in self.arguments]
+
+    def readers(self):
+        return [io for io in self.ios() if io != "args.w"]
 
     def bases(self):
         return ["l"] + (["args.g"] if "g" in self.arguments else [])
@@ -84,7 +91,7 @@ class NeedsWriter:
     def flag(self):
         bits = self.one_of(8, 8, 32, 64)
         flags = ["t", "this.f", "true", "q.is_ok()", "(q == ok)", f"({self.one_of(*STATUSES)} {self.one_of('==', '<>')} {self.one_of(*STATUSES)})", *(["args.z"] if "z" in self.arguments else []),
-                 *([f"{self.ios()[0]}.is_closed()"] if self.ios()[:1] == ["args.r"] else [])]
+                 *(f"{io}.is_closed()" for io in self.readers()[:1])]
         sign, right = self.one_of("<", "<=", "==", "<>", ">=", ">"), self.one_of(self.number(bits), self.literal(bits))
         compared = f"({self.number(bits)} {sign} {right})"
         return self.one_of(*flags, compared, compared, compared, f"(not {self.one_of(*flags)})",
@@ -327,20 +334,21 @@ class NeedsWriter:
         """A call of a method that is written, and the value of its refined argument, if it has one."""
         found = [(owner, name) for (owner, name), (mark, arguments, _) in self.callees.items()
                  for _ in range(STEPS[self.mark].count(name)) if (owner == self.owner or self.owner == "s" and owner == "inner")
-                 and all(argument not in ("r", "w", "g") or argument in self.arguments or argument == "g" for argument in arguments)]
+                 and ("w" not in arguments or "w" in self.arguments) and len({"r", "s"} & set(arguments)) <= len(self.readers())]
         if not found:
             return None
         owner, name = self.one_of(*found)
         mark, arguments, gives = self.callees[owner, name]
-        refined, given = self.number(8), []
+        refined, given, readers = self.number(8), [], self.random.sample(self.readers(), len(self.readers()))
         for argument, kind in arguments.items():
-            values = {"e": refined, "r": "args.r", "w": "args.w", "z": self.one_of("t", "true"), "k": self.number(8),
+            values = {"e": refined, "r": readers.pop() if argument in ("r", "s") else "", "w": "args.w", "z": self.one_of("t", "true"), "k": self.number(8),
                       "g": self.one_of(*self.bases(), "this.a[..]")}
-            given.append(f"{argument}: {values.get(argument) or self.number(32)}")
+            given.append(f"{argument}: {values.get('r' if argument == 's' else argument) or self.number(32)}")
         call = f"{'this' if owner == self.owner else 'this.h'}.{name}{mark}({', '.join(given)})"
         if mark == "?" and self.chance(.5):
             call = f"{self.one_of('q', 'q', 'this.q' if self.owner == 's' else 'q')} =? {call}"
         elif gives and (not mark or self.chance(.7)):
-            targets = {8: ["c", "c", *(["this.m", "this.a[0]"] if self.mark else [])], 32: ["x", "y"]}
+            fields = [f"this.a[{self.one_of(0, 1, self.length - 1)}]", "this.a[0]", "this.m", *(["this.b[c]"] if self.owner == "s" else [])] if self.mark else []
+            targets = {8: ["c", "d", *fields], 32: ["x", "y", *(["this.n"] if self.mark else [])]}
             call = f"{self.one_of(*targets[gives])} = {call}"
         return call, refined if "e" in arguments else None
