@@ -122,11 +122,13 @@ class LikesWriter(NeedsWriter):
     # Bytes
 
     def word(self, depth):
-        """A number of several bytes, read after a look at them or into a place; its bytes may come one by one."""
+        """A number of several bytes, read after a look at them or into a place, which may be found by what is left; its bytes may come one
+        by one."""
         if self.mark != "?" or not self.readers():
             return self.itself(depth)
-        io, (name, bits) = self.one_of(*self.readers()), self.one_of(*READS, ("read_u8", 8))
-        fields = {8: ["this.p", "this.b[c]" if self.owner == "s" else "this.a[1]"], 32: ["this.n"]}
+        io, (name, bits) = self.one_of(*self.readers()), self.one_of(*READS, ("read_u8", 8), ("read_u8", 8))
+        found = [f"this.b[{io}.length() & 3]", f"this.b[{io}.position() & 3]", "this.b[c]"] if self.owner == "s" else ["this.a[1]"]
+        fields = {8: ["this.p", *found], 32: ["this.n"]}
         into = self.one_of(*[local for local, of in LOCALS if of == bits], *fields.get(bits, []))
         look = self.one_of(("peek_u8", 8), ("peek_u16le", 16), ("peek_u32le", 32))
         peek = [f"if {io}.length() >= {look[1] // 8} {{", f"{self.one_of(*[local for local, of in LOCALS if of == look[1]])} = {io}.{look[0]}()", "}"]
