@@ -122,19 +122,26 @@ class LikesWriter(NeedsWriter):
     # Bytes
 
     def word(self, depth):
-        """A number of several bytes, read after a look at them or into a place, which may be found by what is left; its bytes may come one
-        by one."""
+        """A number of several bytes, read after a look at them or into a place; its bytes may come one by one."""
         if self.mark != "?" or not self.readers():
             return self.itself(depth)
-        io, (name, bits) = self.one_of(*self.readers()), self.one_of(*READS, ("read_u8", 8), ("read_u8", 8))
-        found = [f"this.b[{io}.length() & 3]", f"this.b[{io}.position() & 3]", "this.b[c]"] if self.owner == "s" else ["this.a[1]"]
-        fields = {8: ["this.p", *found], 32: ["this.n"]}
+        io, (name, bits) = self.one_of(*self.readers()), self.one_of(*READS, ("read_u8", 8))
+        fields = {8: ["this.p", "this.b[c]" if self.owner == "s" else "this.a[1]"], 32: ["this.n"]}
         into = self.one_of(*[local for local, of in LOCALS if of == bits], *fields.get(bits, []))
         look = self.one_of(("peek_u8", 8), ("peek_u16le", 16), ("peek_u32le", 32))
         peek = [f"if {io}.length() >= {look[1] // 8} {{", f"{self.one_of(*[local for local, of in LOCALS if of == look[1]])} = {io}.{look[0]}()", "}"]
         tell = {16: ["this.n ~mod+= u as base.u32"], 32: ["this.n ~mod+= x"], 64: ["this.n ~mod+= (v % 65521) as base.u32"]}.get(bits, [])
         where = self.one_of([f"v ~mod+= {io}.{self.one_of('length', 'position')}()"], [f"{io}.skip_u32?(n: {self.one_of(2, 3, 5, 'x % 8')})"])
         return [*self.one_of([], peek), f"{into} = {io}.{name}?()", *self.one_of([], tell, peek), *self.one_of([], where)]
+
+    def left(self, depth):
+        """A byte that is read into an element which is found by what is left behind it."""
+        if self.mark != "?" or self.owner != "s" or not self.readers():
+            return self.word(depth)
+        io = self.one_of(*self.readers())
+        index = f"{io}.{self.one_of('length', 'position')}() & 3"
+        return [f"this.b[{index}] = {self.one_of(f'{io}.read_u8?()', f'{io}.read_u8?()', 'c')}",
+                "this.n ~mod+= ((this.b[0] ~mod+ (3 ~mod* this.b[1])) ~mod+ (5 ~mod* this.b[2])) as base.u32"]
 
     def words(self, depth):
         """Numbers of several bytes, one after the other in a loop."""
@@ -161,7 +168,7 @@ class LikesWriter(NeedsWriter):
     def alike(self, depth):
         """Any of these."""
         choices = [self.copied, self.copied, self.copied, self.compared, self.itself, self.indexed, self.shortened, self.statuses, self.written]
-        choices += [self.word, self.word, self.words, self.words] if self.mark == "?" else []
+        choices += [self.word, self.word, self.words, self.words, self.left] if self.mark == "?" else []
         return whole(self.one_of(*choices)(depth))
 
     # What is seen from outside
