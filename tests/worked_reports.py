@@ -436,6 +436,28 @@ pub func lockers.narrowed(x: base.u16) base.u16 {
     return n
 }
 """,
+    # A tray: each thing goes to a place that is told by what is left behind it, or by how much was taken.
+    "tray": """\
+pub struct tray?(
+    held : array[4] base.u8,
+    wide : array[4] base.u16,
+)
+pub func tray.by_left?(src: base.io_reader) {
+    this.held[args.src.length() & 3] = args.src.read_u8?()
+}
+pub func tray.by_taken?(src: base.io_reader) {
+    this.held[args.src.position() & 3] = args.src.read_u8?()
+}
+pub func tray.wide_by_left?(src: base.io_reader) {
+    this.wide[args.src.length() & 3] = args.src.read_u16be?()
+}
+pub func tray.at(n: base.u32[..= 3]) base.u8 {
+    return this.held[args.n]
+}
+pub func tray.wide_at(n: base.u32[..= 3]) base.u16 {
+    return this.wide[args.n]
+}
+""",
     "dial": """\
 pub struct dial()
 pub func dial.any(x: base.u8[8 ..= 11], y: base.u8[8 ..= 11]) base.u8 {
@@ -842,6 +864,28 @@ REPORTS = [
         call l.is_low x=200 y=55 => true
         call l.is_low x=200 y=56 => false
         call l.narrowed x=515 => 3"""),
+    # The target of a call is found when the call has its result: what is taken isn't left any more, and counts as taken.
+    ("targets that are told by what is left", "tray", """
+        new t tray
+        init t => ok
+        buf b 8 => 8
+        put b 0708 => 2
+        call t.by_left src=b => ok b ri=1 wi=2 pos=0 open
+        call t.by_left src=b => ok b ri=2 wi=2 pos=0 open
+        call t.at n=0 => 8
+        call t.at n=1 => 7
+        call t.at n=2 => 0
+        put b 09 => 1
+        call t.by_taken src=b => ok b ri=3 wi=3 pos=0 open
+        call t.at n=2 => 0
+        call t.at n=3 => 9
+        call t.wide_by_left src=b => "$base: short read" b ri=3 wi=3 pos=0 open
+        put b 01 => 1
+        call t.wide_by_left src=b => "$base: short read" b ri=4 wi=4 pos=0 open
+        put b 0203 => 2
+        call t.wide_by_left src=b => ok b ri=5 wi=6 pos=0 open
+        call t.wide_at n=1 => 258
+        call t.wide_at n=2 => 0"""),
     # Ranges of `|` and `&` are exact at both ends: 8 to 11 here.
     ("ors and ands of refined numbers", "dial", """
         new d dial
