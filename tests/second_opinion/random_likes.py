@@ -50,8 +50,10 @@ class LikesWriter(NeedsWriter):
         return [f"if {condition} {{", note, "}"]
 
     def compared(self, depth):
-        """Two numbers that are alike, or nearly so, compared in one width."""
+        """Two numbers that are alike, or nearly so, compared in one width. If they differed in the order of operands alone, under a cast,
+        gcc would remark on it."""
         one, other = self.pair()
+        other = one if sorted(one) == sorted(other) else other
         bits = self.one_of(16, 32, 64)
         sign = self.one_of("==", "==", "<>", "<", "<=", ">", ">=")
         one, other = (f"(({it}) as {WIDTHS[bits]})" for it in (one, other))
