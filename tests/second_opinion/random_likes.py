@@ -2,11 +2,14 @@
 nearly so, of elements under two indices, of slices in their own place, of the bytes of a number beside that number. Each leaves in a
 variable what a wrong compiler would make another value."""
 
+import re
+
 from .random_needs import LOCALS, STATUSES, WIDTHS, Block, NeedsWriter
 
 # The elements of the field b: so many that an index of 8 bits and one that doesn't lose its ninth bit are two elements.
 MANY = 512
 GREAT = [127, 128, 129, 200, 254, 255]
+CONVERTED = re.compile(r"^\((.*)\) as base\.u\d+$")
 READS = [(f"read_u{bits}{order}", bits) for bits in (16, 32, 64) for order in ("le", "be")]
 OPERATORS = ["~mod+", "~mod-", "~mod*", "~sat+", "~sat-", "&", "|", "^"]
 
@@ -53,7 +56,7 @@ class LikesWriter(NeedsWriter):
         """Two numbers that are alike, or nearly so, compared in one width. If they differed in the order of operands alone, under a cast,
         gcc would remark on it."""
         one, other = self.pair()
-        other = one if sorted(one) == sorted(other) else other
+        other = one if sorted(CONVERTED.sub(r"\1", one)) == sorted(CONVERTED.sub(r"\1", other)) else other
         bits = self.one_of(16, 32, 64)
         sign = self.one_of("==", "==", "<>", "<", "<=", ">", ">=")
         one, other = (f"(({it}) as {WIDTHS[bits]})" for it in (one, other))
