@@ -458,6 +458,177 @@ pub func tray.wide_at(n: base.u32[..= 3]) base.u16 {
     return this.wide[args.n]
 }
 """,
+    # A scribe: what a started write has is what was evaluated, whatever is said later.
+    "scribe": """\
+pub struct scribe?(
+    ink : base.u8,
+)
+pub func scribe.refill!(ink: base.u8) {
+    this.ink = args.ink
+}
+pub func scribe.write?(dst: base.io_writer, note: base.u8) {
+    args.dst.write_u8?(a: this.ink)
+    args.dst.write_u8?(a: args.note)
+    args.dst.write_u8?(a: args.note ~mod+ this.ink)
+}
+pub func scribe.leap?(src: base.io_reader, n: base.u32) {
+    args.src.skip_u32?(n: args.n)
+    args.src.skip_u32?(n: args.n)
+}
+""",
+    # A mole digs by two own tunnels, one of which is public: what is kept of a tunnel outlives who began it.
+    "mole": """\
+pub status "$rest"
+pub struct mole?(
+    depth : base.u32,
+    last : base.status,
+)
+pub func mole.tunnel?(src: base.io_reader, by: base.u32) {
+    var c : base.u16
+    c = args.src.read_u16be?()
+    this.depth = (this.depth ~mod+ (c as base.u32)) ~mod+ args.by
+}
+pub func mole.dig?(src: base.io_reader) {
+    this.last =? this.tunnel?(src: args.src, by: 1000)
+    if this.last.is_suspension() {
+        return ok
+    }
+    return this.last
+}
+pub func mole.pass_on?(src: base.io_reader) {
+    this.last =? this.tunnel?(src: args.src, by: 1000)
+    return this.last
+}
+pub func mole.depth() base.u32 {
+    return this.depth
+}
+pub func mole.last() base.status {
+    return this.last
+}
+""",
+    # A ruler: parts of a part that is replaced by itself.
+    "ruler": """\
+pub struct ruler!(
+    left : base.u64,
+)
+pub func ruler.cut!(t: slice base.u8) base.u8 {
+    var s : slice base.u8
+    s = args.t
+    if s.length() > 2 {
+        s = s[s[0] & 1 .. (s[1] & 1) + 1]
+    }
+    this.left = s.length()
+    if s.length() > 0 {
+        return s[0]
+    }
+    return 0
+}
+pub func ruler.last!(t: slice base.u8) base.u8 {
+    var s : slice base.u8
+    s = args.t
+    if (s.length() ~mod- 1) <= s.length() {
+        s = s[s.length() ~mod- 1 ..]
+    }
+    this.left = s.length()
+    if s.length() > 0 {
+        return s[0]
+    }
+    return 0
+}
+pub func ruler.left() base.u64 {
+    return this.left
+}
+""",
+    # A stock of numbers: the place of a copy's count is told by what was copied.
+    "stock": """\
+pub struct stock!(
+    n : array[4] base.u64,
+    m : array[4] base.u64,
+)
+pub func stock.fill!(k: base.u64[..= 3]) {
+    var w : slice base.u64
+    this.m[0] = args.k
+    w = this.n[..]
+    this.n[this.n[0] & 3] = w.copy_from_slice!(s: this.m[.. 2])
+}
+pub func stock.at(i: base.u32[..= 3]) base.u64 {
+    return this.n[args.i]
+}
+""",
+    # A cage inside a zoo. What refuses is inside, and answers each method as it answers.
+    "zoo": """\
+pub status "#bitten"
+pub struct cage?(
+    n : base.u32,
+)
+pub func cage.feed?(src: base.io_reader) {
+    args.src.skip_u32?(n: 1)
+    return "#bitten"
+}
+pub func cage.knock!() base.u32 {
+    this.n ~mod+= 1
+    return 50
+}
+pub func cage.is_full!() base.bool {
+    return true
+}
+pub func cage.sign!() base.status {
+    return ok
+}
+pub func cage.n() base.u32 {
+    return this.n ~mod+ 7
+}
+pub struct zoo?(
+    x : cage,
+    st : base.status,
+)
+pub func zoo.feed?(src: base.io_reader) {
+    this.st =? this.x.feed?(src: args.src)
+    return ok
+}
+pub func zoo.knock!() base.u32 {
+    var n : base.u32
+    n = this.x.knock!()
+    return n
+}
+pub func zoo.is_full!() base.bool {
+    var b : base.bool
+    b = this.x.is_full!()
+    return b
+}
+pub func zoo.sign!() base.status {
+    var s : base.status
+    s = this.x.sign!()
+    return s
+}
+pub func zoo.n() base.u32 {
+    var n : base.u32
+    n = this.x.n()
+    return n
+}
+pub func zoo.st() base.status {
+    return this.st
+}
+""",
+    # A gauge: a wrong argument disables by an impure method, and an error that it answers does not.
+    "gauge": """\
+pub struct gauge(
+    v : base.u32,
+)
+pub func gauge.pure(k: base.u8[1 ..= 9], src: base.io_reader) base.u8 {
+    return args.k
+}
+pub func gauge.set!(src: base.io_reader, k: base.u8[1 ..= 9]) base.bool {
+    this.v = args.k as base.u32
+    return true
+}
+pub func gauge.error!() base.status {
+    return base."#bad argument"
+}
+pub func gauge.v() base.u32 {
+    return this.v
+}
+""",
     "dial": """\
 pub struct dial()
 pub func dial.any(x: base.u8[8 ..= 11], y: base.u8[8 ..= 11]) base.u8 {
@@ -886,6 +1057,112 @@ REPORTS = [
         call t.wide_by_left src=b => ok b ri=5 wi=6 pos=0 open
         call t.wide_at n=1 => 258
         call t.wide_at n=2 => 0"""),
+    # What a started write or skip has is evaluated once; all else of a call is evaluated anew where it goes on.
+    ("a started write keeps its byte, a started skip its number", "scribe", """
+        new s scribe
+        init s => ok
+        buf b 1 => 1
+        buf c 2 => 2
+        buf d 0 => 0
+        call s.refill ink=5 => done
+        call s.write dst=d note=7 => "$base: short write" d ri=0 wi=0 pos=0 open
+        call s.refill ink=6 => done
+        call s.write dst=b note=8 => "$base: short write" b ri=0 wi=1 pos=0 open
+        show b => 05 ri=0 wi=1 pos=0 open
+        call s.write dst=c note=9 => ok c ri=0 wi=2 pos=0 open
+        show c => 080f ri=0 wi=2 pos=0 open
+        buf r 4 => 4
+        put r 01 => 1
+        call s.leap src=r n=2 => "$base: short read" r ri=1 wi=1 pos=0 open
+        put r 0203 => 2
+        call s.leap src=r n=1 => ok r ri=3 wi=3 pos=0 open"""),
+    # What is left of a coroutine stays where its caller goes on; a suspension that is kept and then returned is an error.
+    ("a public coroutine that a method has begun, taken up by the host", "mole", """
+        new m mole
+        init m => ok
+        buf b 8 => 8
+        put b 01 => 1
+        call m.dig src=b => ok b ri=1 wi=1 pos=0 open
+        call m.last => "$base: short read"
+        put b 02 => 1
+        call m.tunnel src=b by=5 => ok b ri=2 wi=2 pos=0 open
+        call m.depth => 263
+        put b 03 => 1
+        call m.pass_on src=b => "#base: cannot return a suspension" b ri=3 wi=3 pos=0 open
+        call m.tunnel src=b by=5 => "#base: disabled by previous error" b ri=3 wi=3 pos=0 open
+        call m.depth => 263
+        call m.last => "$base: short read"
+        init m => ok
+        call m.last => ok
+        put b 0405 => 2
+        call m.tunnel src=b by=1 => ok b ri=5 wi=5 pos=0 open
+        call m.depth => 1030"""),
+    # Both ends of a part are those of the slice that it replaces.
+    ("parts of a part that they replace", "ruler", """
+        new r ruler
+        init r => ok
+        bytes t 030405 => 3
+        bytes u 020709 => 3
+        bytes v 010305 => 3
+        call r.cut t=t => 0
+        call r.left => 0
+        call r.cut t=u => 2
+        call r.left => 2
+        call r.cut t=v => 3
+        call r.left => 1
+        call r.last t=t => 5
+        call r.left => 1
+        call r.last t=null => 0
+        call r.left => 0"""),
+    # The target of a call is found when the call has its result: the copy has changed its index.
+    ("a count whose place is told by what was copied", "stock", """
+        new i stock
+        init i => ok
+        call i.fill k=3 => done
+        call i.at i=0 => 3
+        call i.at i=3 => 2
+        call i.fill k=1 => done
+        call i.at i=0 => 1
+        call i.at i=1 => 2
+        call i.at i=3 => 2"""),
+    # A struct inside that is disabled answers with the zero of the result, and a status with an error; pure methods go on.
+    ("a disabled struct inside answers each method with its zero", "zoo", """
+        new z zoo
+        init z => ok
+        buf b 4 => 4
+        put b 0102 => 2
+        call z.knock => 50
+        call z.is_full => true
+        call z.sign => ok
+        call z.n => 8
+        call z.feed src=b => ok b ri=1 wi=2 pos=0 open
+        call z.st => "#zoo: bitten"
+        call z.knock => 0
+        call z.is_full => false
+        call z.sign => "#base: disabled by previous error"
+        call z.n => 8
+        call z.feed src=b => ok b ri=1 wi=2 pos=0 open
+        call z.st => "#base: disabled by previous error"
+        init z => ok
+        call z.knock => 50
+        call z.n => 8"""),
+    # Entry: a wrong argument disables by an impure method and not by a pure one; an error that an impure method answers disables nothing.
+    ("wrong arguments of pure and impure methods, and an error that an impure one answers", "gauge", """
+        new g gauge
+        buf b 1 => 1
+        call g.pure k=0 src=null => 0
+        init g => ok
+        call g.pure k=0 src=b => 0 b ri=0 wi=0 pos=0 open
+        call g.pure k=5 src=null => 0
+        call g.pure k=9 src=b => 9 b ri=0 wi=0 pos=0 open
+        call g.error => "#base: bad argument"
+        call g.set k=3 src=b => true b ri=0 wi=0 pos=0 open
+        call g.set k=10 src=b => false b ri=0 wi=0 pos=0 open
+        call g.set k=3 src=b => false b ri=0 wi=0 pos=0 open
+        call g.error => "#base: disabled by previous error"
+        call g.v => 3
+        call g.pure k=9 src=b => 9 b ri=0 wi=0 pos=0 open
+        call g.pure k=10 src=b => 0 b ri=0 wi=0 pos=0 open"""),
     # Ranges of `|` and `&` are exact at both ends: 8 to 11 here.
     ("ors and ands of refined numbers", "dial", """
         new d dial
