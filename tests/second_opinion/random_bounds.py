@@ -1,6 +1,7 @@
 """Random packages whose facts stand at the edge of what the rules of bounds accept. A statement that needs something is written
 under a condition that just gives it, or just doesn't, and now and then something comes between that may change it.
-Beside them stand statements that a compiler might take for others (random_likes.py), and at a method's end its locals change fields.
+Beside them stand statements that a compiler might take for others (random_likes.py) and statements after which a wrong way on is seen
+(random_flows.py), and at a method's end its locals change fields.
 
 A statement is a line, or a list of lines and blocks; a block is a `Block`, a list of statements. So a statement that is refused
 can be taken out of a package.
@@ -10,7 +11,8 @@ import re
 from . import judged
 from .bounds import Bounds
 from .facts import Package, Unmet
-from .random_likes import MANY, READS, LikesWriter, whole
+from .random_flows import WIDE, FlowsWriter
+from .random_likes import MANY, READS, whole
 from .random_needs import LOCALS, STATUSES, WIDTHS, Block
 from .trees import Method
 
@@ -21,6 +23,7 @@ EAT = ["if args.r.length() > 0 {", "args.r.skip_u32_fast!(actual: 1, worst_case:
 EMIT = ["if args.w.length() > 0 {", "args.w.write_u8_fast!(a: 1)", "}"]
 VARIABLES = [f"var {local} : {WIDTHS[bits]}" for local, bits in LOCALS]
 VARIABLES += ["var t : base.bool", "var l : slice base.u8", "var q : base.status"]
+VARIABLES += [f"var l{name} : slice base.u{bits}" for name, bits in WIDE.items()]
 WORD = re.compile(r"\w+")
 PIECES = re.compile(r"(?<=[ (\[])(\d+|<=|>=|<|>|==|<>|and|or)(?=[ )\],.]|$)")
 
@@ -76,7 +79,7 @@ def repaired(package):
     return package
 
 
-class BoundsWriter(LikesWriter):
+class BoundsWriter(FlowsWriter):
     """Writes one package."""
 
     # Declarations
@@ -84,22 +87,23 @@ class BoundsWriter(LikesWriter):
     def package(self):
         self.high, self.least = self.one_of(3, 4, 5, 6), self.one_of(0, 0, 1)
         self.length = self.high + self.one_of(0, 1, 1, 2)
-        self.few = self.one_of(2, 3, 4)
+        self.few, self.moved = self.one_of(2, 3, 4), self.one_of(*WIDE)
         refined = f"base.u8[..= {self.high}]"
         arrays = f"a : array[{self.length}] base.u8, d : array[{self.few}] {refined}"
         lines = ['pri status "#bad"', 'pri status "$wait"', 'pri status "@note"',
                  f"pri const K : base.u8 = {self.high}", f"pri const M : base.u32 = {self.length}",
-                 f"{self.one_of('pub', 'pri')} struct inner?(n : base.u32, m : {refined}, p : base.u8, f : base.bool, {arrays})",
+                 f"{self.one_of('pub', 'pri')} struct leaf?(n : base.u32)",
+                 f"{self.one_of('pub', 'pri')} struct inner?(n : base.u32, m : {refined}, p : base.u8, f : base.bool, {arrays}, g : leaf)",
                  f"pub struct s?(n : base.u32, m : {refined}, p : base.u8, o : base.u64, f : base.bool, q : base.status, {arrays}, "
-                 f"b : array[{MANY}] base.u8, h : inner)"]
+                 f"b : array[{MANY}] base.u8, {self.wide_fields()}, h : inner, g : leaf)"]
         self.callees = {}
         methods = [method for owner in ("inner", "s") for method in self.fixed(owner)]
         for owner in ("inner", "s"):
             for name, mark in (("pure", ""), ("set", "!"), ("more", "?")):
                 methods.append(self.method(owner, name, mark, "pub" if owner == "inner" else self.one_of("pub", "pri")))
-        methods += [self.tell(owner) for owner in ("inner", "s")]
+        methods += [self.tell(owner) for owner in ("leaf", "inner", "s")]
         methods += [self.method("s", name, mark, "pub") for name, mark in (("act", "!"), ("go", "?"), ("run", "?"))]
-        return Block([*lines, *methods])
+        return Block([*lines, *methods, *self.callees_of(text_of(methods))])
 
     def fixed(self, owner):
         """Methods that change fields, a reader and a writer."""
@@ -115,18 +119,20 @@ class BoundsWriter(LikesWriter):
     def method(self, owner, name, mark, public):
         self.owner, self.mark, self.loops, self.gives = owner, mark, [], None
         kinds = [("i", "base.u32"), ("j", "base.u32"), ("k", "base.u8"), ("e", f"base.u8[{self.least} ..= {self.high}]"),
-                 ("w", "base.io_writer"), ("r", "base.io_reader"), ("s", "base.io_reader"), ("g", "slice base.u8"), ("z", "base.bool")]
+                 ("w", "base.io_writer"), ("o", "base.io_writer"), ("r", "base.io_reader"), ("s", "base.io_reader"), ("g", "slice base.u8"), ("z", "base.bool")]
         kept = self.random.sample(kinds, self.random.randint(4, 8)) if name in ("act", "go", "run") else \
             self.random.sample(kinds, self.random.randint(1, 4))
         self.arguments = dict(kept)
+        if len(self.ios()) > 3:
+            self.arguments.pop(self.one_of("o", "s"))
         result = ""
         if mark != "?":
             self.gives, result = self.one_of((8, f" base.u8[..= {self.high}]"), (8, " base.u8"), (32, " base.u32"))
             self.most = self.high if "[" in result else 2 ** self.gives - 1
         listed = ", ".join(f"{argument}: {kind}" for argument, kind in self.arguments.items())
         head = f"{public} func {owner}.{name}{mark}({listed}){result} {{"
-        count = self.random.randint(4, 8) if name in ("act", "go", "run") else self.random.randint(1, 3)
-        first = self.alike(3) if name in ("act", "go", "run") and self.chance(.6) else []
+        count = self.random.randint(3, 6) if name in ("act", "go", "run") else self.random.randint(1, 3)
+        first = self.one_of(self.alike, self.flow, self.flow)(3) if name in ("act", "go", "run") and self.chance(.8) else []
         body = Block(self.starts() + first + self.statements(count, 3))
         body += whole(self.shown(set(WORD.findall(text_of(body))))) if mark else []
         end = [f"return {self.one_of(*self.results())}"] if self.gives else []
@@ -170,8 +176,9 @@ class BoundsWriter(LikesWriter):
             if io in about:
                 found += [f"this.eat!(r: {io})", f"{io}.skip_u32_fast!(actual: 1, worst_case: 1)",
                           f"{io}.skip_u32_fast!(actual: this.m as base.u32, worst_case: M)"]
-        if "args.w" in about and self.may("!"):
-            found += ["this.emit!(w: args.w)", "args.w.write_u8_fast!(a: 7)", "v = args.w.copy_from_slice!(s: this.a[..])"]
+        for io in self.writers() if self.may("!") else []:
+            if io in about:
+                found += [f"this.emit!(w: {io})", f"{io}.write_u8_fast!(a: 7)", f"v = {io}.copy_from_slice!(s: this.a[..])"]
         if self.may("?"):
             found += [self.waiting()] * 2
         return self.one_of(*found) if found else self.plain()
@@ -194,8 +201,8 @@ class BoundsWriter(LikesWriter):
             io, (name, bits) = self.one_of(*self.readers()), self.one_of(*READS)
             found += [self.assigned(bits, f"{io}.{name}?()"), self.assigned(8, f"{io}.read_u8?()")] * 2
             found += [f"{io}.skip_u32?(n: {self.one_of('x', 1, 2, 3, self.number(32))})", f"this.a[0] = {io}.read_u8?()", f"this.p = {io}.read_u8?()"]
-        if "w" in self.arguments:
-            found += [f"args.w.write_u8?(a: {self.number(8)})"] * 2
+        if self.writers():
+            found += [f"{self.one_of(*self.writers())}.write_u8?(a: {self.number(8)})"] * 2
         called = self.call()
         return self.one_of(*found, *([called[0]] if called else []))
 
@@ -213,7 +220,7 @@ class BoundsWriter(LikesWriter):
         choices = [self.plain, self.plain]
         if depth:
             choices += [self.through_slice, self.guarded, self.guarded, self.guarded, self.guarded, self.refused, self.merge, self.loop,
-                        self.loop, self.branch, self.alike, self.alike, self.alike]
+                        self.loop, self.branch, self.alike, self.alike, self.flow, self.flow]
             choices += [self.waiting, self.waiting] if self.mark == "?" else []
             choices += [self.jump] if self.loops and self.chance(.3) else []
         return self.one_of(*choices)(depth)

@@ -188,26 +188,31 @@ class LikesWriter(NeedsWriter):
     def tell(self, owner):
         """A method that gives a number in which each field has a part, and of the arrays some elements."""
         last = self.one_of(2, self.length - 1)
-        fields = ["this.n", "this.m", "this.p", "this.a[0]", "this.a[1]", f"this.a[{last}]", f"this.d[{self.one_of(0, 1, self.few - 1)}]"]
+        if owner == "leaf":
+            return ["pub func leaf.tell() base.u64 {", "return this.n as base.u64", "}"]
+        fields = ["y", "this.n", "this.m", "this.p", "this.a[0]", "this.a[1]", f"this.a[{last}]", f"this.d[{self.one_of(0, 1, self.few - 1)}]"]
         inside = []
         if owner == "s":
-            fields += ["x", *(f"this.b[{self.random.randrange(MANY)}]" for _ in range(2))]
+            fields += ["x", *(f"this.b[{self.random.randrange(MANY)}]" for _ in range(2)), *(f"this.{name}[{self.random.randrange(4)}]" for name in "uxv")]
             inside = ["x = this.h.tell()", "v = this.o", "if this.q.is_ok() {", "v ~mod+= 1", "}"]
         parts = [f"v = (v ~mod* 31) ~mod+ ({path} as base.u64)" for path in fields]
-        return [f"pub func {owner}.tell() base.u64 {{", *(["var x : base.u64"] if inside else []), "var v : base.u64", *inside, *parts,
+        return [f"pub func {owner}.tell() base.u64 {{", *(["var x : base.u64"] if inside else []), "var y : base.u64", "var v : base.u64", *inside, "y = this.g.tell()", *parts,
                 "if this.f {", "v ~mod+= 1", "}", "return v", "}"]
 
 
 def whole(lines):
     """The statements that lines are, of which each ends with an opening brace where a block begins."""
-    statements, heads = [Block()], []
+    blocks, open_statements = [Block()], []
     for line in lines:
-        if line.endswith("{"):
-            heads.append(line)
-            statements.append(Block())
-        elif line == "}":
-            inside = statements.pop()
-            statements[-1].append([heads.pop(), inside, line])
+        begins, ends = line.endswith("{"), line.startswith("}")
+        if ends:
+            open_statements[-1] += [blocks.pop(), line]
+        elif begins:
+            open_statements.append([line])
         else:
-            statements[-1].append(line)
-    return statements[0]
+            blocks[-1].append(line)
+        if begins:
+            blocks.append(Block())
+        elif ends:
+            blocks[-1].append(open_statements.pop())
+    return blocks[0]

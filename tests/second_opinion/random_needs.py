@@ -49,10 +49,13 @@ class NeedsWriter:
         return found
 
     def ios(self):
-        return [f"args.{name}" for name in ("r", "s", "w") if name in self.arguments]
+        return self.readers() + self.writers()
 
     def readers(self):
-        return [io for io in self.ios() if io != "args.w"]
+        return [f"args.{name}" for name in ("r", "s") if name in self.arguments]
+
+    def writers(self):
+        return [f"args.{name}" for name in ("w", "o") if name in self.arguments]
 
     def bases(self):
         return ["l"] + (["args.g"] if "g" in self.arguments else [])
@@ -180,7 +183,7 @@ class NeedsWriter:
 
     def copies(self, source):
         """Calls that copy a slice to where the method may write."""
-        targets = ["l", *(["args.w"] if "w" in self.arguments else [])] if self.mark else []
+        targets = ["l", *self.writers()] if self.mark else []
         return [f"v = {target}.copy_from_slice!(s: {source})" for target in targets]
 
     def need_slice_element(self):
@@ -306,7 +309,7 @@ class NeedsWriter:
     def need_bytes(self):
         io = self.one_of(*self.ios())
         length = f"{io}.length()"
-        if io == "args.w":
+        if io in self.writers():
             count = self.one_of(1, 1, 2)
             if not self.may("!"):
                 return [self.at_least(length, 1, 64)], f"v = {length} - 1", io
@@ -334,16 +337,17 @@ class NeedsWriter:
         """A call of a method that is written, and the value of its refined argument, if it has one."""
         found = [(owner, name) for (owner, name), (mark, arguments, _) in self.callees.items()
                  for _ in range(STEPS[self.mark].count(name)) if (owner == self.owner or self.owner == "s" and owner == "inner")
-                 and ("w" not in arguments or "w" in self.arguments) and len({"r", "s"} & set(arguments)) <= len(self.readers())]
+                 and len({"w", "o"} & set(arguments)) <= len(self.writers()) and len({"r", "s"} & set(arguments)) <= len(self.readers())]
         if not found:
             return None
         owner, name = self.one_of(*found)
         mark, arguments, gives = self.callees[owner, name]
-        refined, given, readers = self.number(8), [], self.random.sample(self.readers(), len(self.readers()))
+        refined, given = self.number(8), []
+        readers, writers = (self.random.sample(buffers, len(buffers)) for buffers in (self.readers(), self.writers()))
         for argument, kind in arguments.items():
-            values = {"e": refined, "r": readers.pop() if argument in ("r", "s") else "", "w": "args.w", "z": self.one_of("t", "true"), "k": self.number(8),
+            values = {"e": refined, "r": readers.pop() if argument in ("r", "s") else "", "w": writers.pop() if argument in ("w", "o") else "", "z": self.one_of("t", "true"), "k": self.number(8),
                       "g": self.one_of(*self.bases(), "this.a[..]")}
-            given.append(f"{argument}: {values.get('r' if argument == 's' else argument) or self.number(32)}")
+            given.append(f"{argument}: {values.get({'s': 'r', 'o': 'w'}.get(argument, argument)) or self.number(32)}")
         call = f"{'this' if owner == self.owner else 'this.h'}.{name}{mark}({', '.join(given)})"
         if mark == "?" and self.chance(.5):
             call = f"{self.one_of('q', 'q', 'this.q' if self.owner == 's' else 'q')} =? {call}"
