@@ -220,7 +220,7 @@ class BoundsWriter(FlowsWriter):
         choices = [self.plain, self.plain]
         if depth:
             choices += [self.through_slice, self.guarded, self.guarded, self.guarded, self.guarded, self.refused, self.merge, self.loop,
-                        self.loop, self.branch, self.alike, self.alike, self.flow, self.flow]
+                        self.loop, self.branch, self.alike, self.alike, self.alike, self.flow, self.flow]
             choices += [self.waiting, self.waiting] if self.mark == "?" else []
             choices += [self.jump] if self.loops and self.chance(.3) else []
         return self.one_of(*choices)(depth)

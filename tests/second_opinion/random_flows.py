@@ -3,7 +3,7 @@ over a suspension, coroutines that wait while their callers go on, statuses of e
 places that the call changes, elements of more than a byte."""
 
 from .random_likes import READS, LikesWriter, whole
-from .random_needs import STATUSES
+from .random_needs import LOCALS, STATUSES
 
 # The arrays of more than a byte have the names of the locals of their width.
 WIDE = {"u": 16, "x": 32, "v": 64}
@@ -75,11 +75,12 @@ class FlowsWriter(LikesWriter):
     # Statements
 
     def skipped(self, depth):
-        """Several bytes that are left out, and numbers that come after them."""
-        io, (name, bits) = self.one_of(*self.readers()), self.one_of(("read_u8", 8), ("read_u8", 8), *READS[:2])
-        local = {8: self.one_of("c", "d"), 16: "u"}[bits]
-        number = self.one_of(2, 3, 4, 5, 7, "(x & 3) + 2", "y & 7")
-        lines = [f"{io}.skip_u32?(n: {number})", *self.one_of([], self.point()), f"{local} = {io}.{name}?()", self.mixed(local, bits)]
+        """Several bytes that are left out and numbers that come after them, or numbers of several bytes, each seen at once."""
+        io, number = self.one_of(*self.readers()), self.one_of(2, 3, 4, 5, 7, "(x & 3) + 2", "y & 7")
+        name, bits = self.one_of(("read_u8", 8), ("read_u8", 8), *READS)
+        local = self.one_of(*[local for local, of in LOCALS if of == bits])
+        skip = [f"{io}.skip_u32?(n: {number})", *self.one_of([], self.point())] if bits == 8 or self.chance(.3) else []
+        lines = [*skip, f"{local} = {io}.{name}?()", self.mixed(local, bits)]
         return ["while true {", *lines, f"if {local} > {self.one_of(1, 3, 100)} {{", "break", "}", "}"] if self.chance(.4) else lines
 
     def jumping(self, depth):
@@ -203,5 +204,5 @@ class FlowsWriter(LikesWriter):
         choices = [self.jumping, self.differing, self.asking, self.asking, self.several, *([self.wide, self.wide] if self.owner == "s" else []),
                    *([self.bitwise] if self.chance(.4) else [])]
         if self.mark == "?":
-            choices += [self.jumping, *([self.skipped, self.skipped, self.answered, self.answered, self.asking] if self.readers() else [])]
+            choices += [self.jumping, *([self.skipped, self.skipped, self.skipped, self.answered, self.answered, self.asking] if self.readers() else [])]
         return whole(self.one_of(*choices)(depth))
