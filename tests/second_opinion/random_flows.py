@@ -192,7 +192,8 @@ class FlowsWriter(LikesWriter):
     def bitwise(self, depth):
         """Bits of numbers of 32 or 64, and shifts by a variable; few, since their ranges are found bit by bit."""
         bits = self.one_of(32, 64)
-        x, y, field = ("x", "y", "this.n") if bits == 32 else ("v", "this.v[1]" if self.owner == "s" else "v", "this.v[0]" if self.owner == "s" else "v")
+        wide = ("v", "this.v[1]", "this.v[0]") if self.owner == "s" else ("v", "v", "v")
+        x, y, field = ("x", "y", "this.n") if bits == 32 else wide
         by = f"({self.one_of('c', 'd', 'x')} & {bits - 1})"
         value = self.one_of(f"{x} {self.one_of('&', '|', '^')} {y}", f"{x} >> {by}", f"{x} ~mod<< {by}", f"{field} ~mod<< {by}")
         return [f"{field} = {value}", f"{x} {self.one_of('>>', '~mod<<')}= {by}", self.mixed(field, bits)]
@@ -201,7 +202,7 @@ class FlowsWriter(LikesWriter):
         """Any of these; a method that changes no field has others."""
         if not self.mark:
             return self.alike(depth)
-        choices = [self.jumping, self.differing, self.asking, self.asking, self.several, *([self.wide, self.wide] if self.owner == "s" else []),
+        choices = [self.jumping, self.jumping, self.differing, self.asking, self.asking, self.several, *([self.wide, self.wide] if self.owner == "s" else []),
                    *([self.bitwise] if self.chance(.4) else [])]
         if self.mark == "?":
             choices += [self.jumping, *([self.skipped, self.skipped, self.skipped, self.answered, self.answered, self.asking] if self.readers() else [])]
