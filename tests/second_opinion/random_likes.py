@@ -38,7 +38,8 @@ class LikesWriter(NeedsWriter):
                 f"({x} {sign} {y}) as {wide}"]
         stepped = [f"{x} ~mod+ {step}", f"{x} ~mod+ {step - 1}", f"({x} as {wide}) ~mod+ {step}", f"({x} ~mod+ {step}) as {wide}", f"{x} ~sat+ {step}"]
         doubled = [f"{x} ~mod<< 1", f"({x} as {wide}) ~mod<< 1", f"{x} ~mod* 2", f"({x} as {wide}) ~mod* 2", f"{x} ~mod+ {x}"]
-        less = [f"{x} ~mod- {y}", f"{y} ~mod- {x}", f"{x} ~sat- {y}", f"(({x} as {wide}) ~mod- ({y} as {wide})) & 511", f"({x} ^ 255) ~mod+ {y}"]
+        z = y if x != y else self.one_of(*sorted({"c", "d"} - {x}))
+        less = [f"{x} ~mod- {z}", f"{z} ~mod- {x}", f"{x} ~sat- {z}", f"(({x} as {wide}) ~mod- ({z} as {wide})) & 511", f"({x} ^ 255) ~mod+ {z}"]
         plain = [x, y, f"{x} as {wide}", f"{x} & 127", f"({x} as {wide}) & 511", f"{x} >> 1", f"({x} as {wide}) >> 1"]
         return self.cut() if self.chance(.5) else self.random.sample(self.one_of(both, both, stepped, doubled, less, plain), 2)
 
