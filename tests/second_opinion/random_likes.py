@@ -29,8 +29,8 @@ class LikesWriter(NeedsWriter):
         kept = f"({x} as {wide}) {sign} {other if other.isdigit() else f'({other} as {wide})'}"
         return self.random.sample([f"{x} {sign} {other}", kept], 2)
 
-    def pair(self):
-        """Two indices of b that are alike, or alike but for a width, for the order of operands or for a number."""
+    def pair(self, twice=True):
+        """Two indices of b that are alike, or alike but for a width, for the order of operands or for a number. Both may be twice a number."""
         x, y, step = self.byte(), self.byte(), self.one_of(1, 2, 128, 255)
         wide = WIDTHS[self.one_of(16, 16, 32, 64)]
         sign = self.one_of("~mod+", "~mod+", "~mod+", "~sat+", "|")
@@ -41,7 +41,7 @@ class LikesWriter(NeedsWriter):
         z = y if x != y else self.one_of(*sorted({"c", "d"} - {x}))
         less = [f"{x} ~mod- {z}", f"{z} ~mod- {x}", f"{x} ~sat- {z}", f"(({x} as {wide}) ~mod- ({z} as {wide})) & 511", f"({x} ^ 255) ~mod+ {z}"]
         plain = [x, y, f"{x} as {wide}", f"{x} & 127", f"({x} as {wide}) & 511", f"{x} >> 1", f"({x} as {wide}) >> 1"]
-        return self.cut() if self.chance(.5) else self.random.sample(self.one_of(both, both, stepped, doubled, less, plain), 2)
+        return self.cut() if self.chance(.5) else self.random.sample(self.one_of(both, both, stepped, *([doubled] if twice else []), less, plain), 2)
 
     def great(self):
         """Numbers of which two together lose a bit."""
@@ -55,8 +55,8 @@ class LikesWriter(NeedsWriter):
 
     def compared(self, depth):
         """Two numbers that are alike, or nearly so, compared in one width. If they differed in the order of operands alone, under a cast,
-        gcc would remark on it."""
-        one, other = self.pair()
+        or were both twice a number, gcc would remark on it."""
+        one, other = self.pair(twice=False)
         other = one if sorted(CONVERTED.sub(r"\1", one)) == sorted(CONVERTED.sub(r"\1", other)) else other
         bits = self.one_of(16, 32, 64)
         sign = self.one_of("==", "==", "<>", "<", "<=", ">", ">=")
