@@ -21,7 +21,7 @@ use Rattle.wf_ast.specs.TypedTree.{Question, reader_length, reader_position, pee
 use Rattle.wf_ast.specs.Value.{State, told, io_buffer}
 use Rattle.wf_ast.specs.WellTyped.{is_reader, is_writer, question_width}
 use Rattle.c_text.specs.declared.kinds.COp.TheVariants.{Add, Sub, Shl}
-use Rattle.c_text.specs.CTree.{ExprTree, member, element, operation, cast, no_operand, operand}
+use Rattle.c_text.specs.CTree.{ExprTree, member, element, operation, cast, no_operand}
 use Rattle.c_meaning.specs.CValues.{common}
 use Rattle.c_meaning.specs.CExprs.{Surroundings}
 use Rattle.wf_exprs.specs.Names.{Names}

@@ -5,9 +5,8 @@ use Rattle.wf_ast.specs.TypedPackage.{MethodTree}
 use Rattle.wf_ast.specs.TypedTree.{ValueTree, Target, Awaited, take_number, skip, write, Called}
 use Rattle.wf_lower_stmts.specs.BodyNodes.{AreAlike}
 use Rattle.wf_lower_stmts.specs.Forms.{Form, held_local}
-use Rattle.wf_lower_stmts.specs.Statements.{taken_byte, step_on, answer_local, awoken_call, lower_call, put_result}
+use Rattle.wf_lower_stmts.specs.Statements.{taken_byte, answer_local, awoken_call, lower_call, put_result}
 use Rattle.c_text.specs.CTree.{ExprTree, Code}
-use Rattle.wf_exprs.specs.Words.{num}
 use Rattle.wf_exprs.specs.Names.{Names}
 use Rattle.wf_lower_stmts.proofs.AlikeLaws.{put_alike}
 

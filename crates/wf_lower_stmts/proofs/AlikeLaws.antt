@@ -6,7 +6,6 @@ use Rattle.wf_ast.specs.TypedInvariant.{is_tree_of}
 use Rattle.wf_ast.specs.TypedTrees.{num_in, cond_in}
 use Rattle.wf_ast.specs.TypedTree.{ValueTree, numeric, logical, state, elements, io, lost, Target, to_number, to_element, to_flag, to_status, to_slice, to_nothing}
 use Rattle.c_text.specs.CTree.{ExprTree, Code}
-use Rattle.c_text.specs.CTree as c
 use Rattle.wf_exprs.specs.Names.{Names}
 use Rattle.wf_exprs.specs.Exprs.{given, lowered_cond}
 use Rattle.wf_lower_stmts.specs.Statements.{target_code, put_into, set_place, set_value}

@@ -1,6 +1,5 @@
 -- Which entries are added with the parts of statements.
 use Rattle.std.proofs.Common.{◌≡◌, ◌∙◌, refl, sym, ap, subst, List, [], ◌∷◌, ◌++◌}
-use Rattle.std.specs.Prelude.{if◌then◌else◌}
 use Rattle.std.proofs.lemmas.List.{append-nil, append_assoc}
 use Rattle.wf_ast.specs.declared.parsed.Arm as parsed
 use Rattle.wf_ast.specs.declared.typed_code.StmtNode.{StmtNode}

@@ -1,5 +1,4 @@
-use Rattle.std.proofs.Common.{◌∙◌, ℕ, ap}
-use Rattle.c_text.specs.CTree.{ExprTree}
+use Rattle.std.proofs.Common.{ℕ, ap}
 use Rattle.wf_exprs.specs.Exprs.{peeked}
 use Rattle.wf_exprs.proofs.Growing.{grows_on, kept_expr, retell}
 use Rattle.wf_exprs_nodes.proofs.OperandLaws.{has_there, has_is}
