@@ -201,6 +201,7 @@ impl Unit {
     }
 
     /// Whether the name with this number, if there is one, is these words.
+    #[inline(always)]
     fn is_spelt_at(
         &self,
         n: usize,
@@ -241,6 +242,7 @@ impl Unit {
 
     /// The number of the name that is these words, one after the other; a word may be empty. It is added where the unit
     /// doesn't have it yet. After `NoMemory` the unit is as before.
+    #[inline(always)]
     pub fn add_words(
         &mut self,
         first: &[u8],

@@ -1,11 +1,12 @@
 // Names that are put together of words, one after the other.
 
-ghost use Rattle.std.specs.Prelude.{◌≡◌, ◌++◌, true, IfSome, OnOk};
+ghost use Rattle.std.specs.Prelude.{◌≡◌, ◌++◌, true, nat_eq, IfSome, OnOk};
+ghost use Rattle.std.specs.Cmp.Lexicographic.{pointwise};
 
 use wf_text::NoMemory;
 
 /// The last bytes of a word, four at most, as one number.
-#[inline]
+#[inline(always)]
 fn tail(word: &[u8]) -> usize {
     match word {
         [] => 0,
@@ -22,7 +23,7 @@ fn tail(word: &[u8]) -> usize {
 const SPREAD: usize = 0x9E37_79B9_7F4A_7C15;
 
 /// Where the name of these words is looked for first.
-#[inline]
+#[inline(always)]
 pub(crate) fn place_of(first: &[u8], second: &[u8], third: &[u8], fourth: &[u8]) -> usize {
     let front = tail(first) << 32 | tail(second);
     let back = tail(third) << 32 | tail(fourth);
@@ -33,7 +34,24 @@ pub(crate) fn place_of(first: &[u8], second: &[u8], third: &[u8], fourth: &[u8])
         >> 48
 }
 
+/// Whether two texts are the same. It goes byte by byte, since names are short.
+#[inline(always)]
+fn is_same(a: &[u8], b: &[u8]) -> bool
+    ensures { result ≡ pointwise nat_eq a.now b.now }
+{
+    if a.len() != b.len() {
+        return false;
+    }
+    for i in 0..a.len() {
+        if a[i] != b[i] {
+            return false;
+        }
+    }
+    true
+}
+
 /// What follows the word at the front of a name, if it stands there.
+#[inline(always)]
 fn after<'a>(name: &'a [u8], word: &[u8]) -> Option<&'a [u8]>
     ensures { IfSome result (λ rest. name.now ≡ word.now ++ rest.now) }
 {
@@ -44,10 +62,15 @@ fn after<'a>(name: &'a [u8], word: &[u8]) -> Option<&'a [u8]>
         return None;
     }
     let (front, rest) = name.split_at(word.len());
-    if front == word { Some(rest) } else { None }
+    if is_same(front, word) {
+        Some(rest)
+    } else {
+        None
+    }
 }
 
 /// Whether a name is these words.
+#[inline(always)]
 pub(crate) fn is_spelt(
     name: &[u8],
     first: &[u8],
@@ -64,7 +87,7 @@ pub(crate) fn is_spelt(
         return false;
     };
     match after(rest, third) {
-        Some(rest) => rest == fourth,
+        Some(rest) => is_same(rest, fourth),
         None => false,
     }
 }

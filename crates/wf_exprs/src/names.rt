@@ -17,6 +17,7 @@ pub fn put_name(u: &mut Unit, name: &[u8]) -> Result<CNameId, NoMemory>
 }
 
 /// The number of the name that is these words, one after the other; a word may be empty.
+#[inline(always)]
 pub fn put_words(
     u: &mut Unit,
     first: &[u8],
