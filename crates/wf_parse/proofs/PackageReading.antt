@@ -1,5 +1,5 @@
 -- A package, file by file.
-use Rattle.std.proofs.Common.{◌≡◌, ◌≤◌, ◌<◌, ◌+◌, ◌-◌, inl, inr, ℕ, zero, suc, Err, List, [], ◌∷◌, ◌++◌, map, drop, length, refl, sym, ◌∙◌, ap, subst, arith, append_assoc, get_or}
+use Rattle.std.proofs.Common.{◌≡◌, ◌≤◌, ◌<◌, ◌+◌, inl, inr, ℕ, zero, suc, Err, List, [], ◌∷◌, ◌++◌, map, drop, length, refl, sym, ◌∙◌, ap, subst, arith, append_assoc, get_or}
 use Rattle.std.proofs.Math.Seq.{drop-cons, drop-nil}
 use Rattle.std.proofs.lemmas.List.{append-nil, drop-map}
 use Rattle.std.specs.Prelude.{sum_by}
@@ -11,7 +11,6 @@ use Rattle.wf_ast.specs.ParsedParts.{Parsed}
 use Rattle.wf_ast.specs.ParsedTree.{DeclTree}
 use Rattle.wf_ast.specs.ParsedTrees.{decl_trees}
 use Rattle.wf_ast.specs.ReadPackage.{decls_of}
-use Rattle.wf_parse_grammar.specs.Building.{Refused}
 use Rattle.wf_parse_nodes.specs.declared.maker.Maker.{Maker}
 use Rattle.wf_parse_nodes.specs.declared.values.SemanticValue.{SemanticValue}
 use Rattle.wf_parse_nodes.specs.Makers.{IsSound, nodes}

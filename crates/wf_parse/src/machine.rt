@@ -16,9 +16,10 @@ ghost use Rattle.wf_parse_nodes.specs.Makers.{nodes, IsSound, KeepsTexts, made};
 ghost use Rattle.wf_parse.specs.Machines.{size, state_of, AnswersBuild, AnswersToken, AnswersEnd, KeepsAt, Wanted, want_owes};
 
 use stacks::Stack;
+use wf_ast::Op;
 use wf_ast::parsed::Name;
 use wf_parse_grammar::table::{build, may_end, opens, owes, skips};
-use wf_parse_grammar::{Action, Build, Kind, Sym, Token, Want, Wants};
+use wf_parse_grammar::{Action, Build, Kind, Lead, Sym, Token, Want, Wants};
 use wf_parse_nodes::Maker;
 use wf_text::{NoMemory, Rule};
 
@@ -109,28 +110,43 @@ fn answer_at_once(symbol: Sym, kind: Kind) -> Option<bool>
         },
         Kind::Semicolon => match symbol {
             Sym::ASemicolon => Some(true),
-            Sym::Rest | Sym::End | Sym::Links(_) | Sym::PathAtom | Sym::BoundsPart | Sym::Else =>
-                Some(false),
+            Sym::Rest
+            | Sym::End
+            | Sym::Links(_)
+            | Sym::PathAtom
+            | Sym::ThisAtom
+            | Sym::BoundsPart
+            | Sym::Else => Some(false),
             _ => None,
         },
         Kind::CloseRound => match symbol {
             Sym::RightRound | Sym::Fields | Sym::MoreFields | Sym::Givens | Sym::MoreGivens => Some(
                 true,
             ),
-            Sym::Rest | Sym::End | Sym::Links(_) | Sym::PathAtom | Sym::BoundsPart => Some(false),
+            Sym::Rest
+            | Sym::End
+            | Sym::Links(_)
+            | Sym::PathAtom
+            | Sym::ThisAtom
+            | Sym::BoundsPart => Some(false),
             _ => None,
         },
         Kind::CloseSquare => match symbol {
             Sym::RightSquare => Some(true),
-            Sym::Rest | Sym::End | Sym::Links(_) | Sym::PathAtom => Some(false),
+            Sym::Rest | Sym::End | Sym::Links(_) | Sym::PathAtom | Sym::ThisAtom => Some(false),
             _ => None,
         },
         Kind::Comma | Kind::OpenCurly | Kind::CloseCurly => match symbol {
-            Sym::Rest | Sym::End | Sym::Links(_) | Sym::PathAtom | Sym::BoundsPart => Some(false),
+            Sym::Rest
+            | Sym::End
+            | Sym::Links(_)
+            | Sym::PathAtom
+            | Sym::ThisAtom
+            | Sym::BoundsPart => Some(false),
             _ => None,
         },
         Kind::Chain(_) | Kind::Binary(_) => match symbol {
-            Sym::PathAtom => Some(false),
+            Sym::PathAtom | Sym::ThisAtom => Some(false),
             _ => None,
         },
         _ => None,
@@ -377,6 +393,182 @@ impl Machine {
         Ok(true)
     }
 
+    /// A `this` is taken that begins an operand.
+    fn take_this(&mut self, limited: bool, symbol: Sym, token: Token) -> Result<bool, StepFault>
+        requires sound { IsSound self.old.maker }
+        requires size { size self.old + 32 < 2 ^ 32 }
+        requires closed { opens token.kind ≡ false }
+        ensures answers { AnswersBuild limited symbol token (builds.Take (Make (does.PushPlace token.at) ∷ Read syms.ADot ∷ Read syms.AName ∷ Read syms.ThisAtom ∷ [])) (state_of self.old) (state_of self.new) result }
+        ensures ok { IfOk result (λ taken. taken ≡ true) }
+        ensures sound { OnOk result (IsSound self.new.maker) }
+        ensures texts { OnOk result (KeepsTexts self.old.maker.package self.new.maker.package) }
+        ensures refused { IfErr result (λ stop. KeepsAt stop self.old.maker.package self.new.maker.package) }
+        ensures size { OnOk result (size self.new ≤ size self.old + 32) }
+    {
+        self.make(Action::PushPlace(token.at))?;
+        self.wants.push(Want::Read(Sym::ThisAtom))?;
+        self.wants.push(Want::Read(Sym::AName))?;
+        self.wants.push(Want::Read(Sym::ADot))?;
+        Ok(true)
+    }
+
+    /// The same, and `after` is wanted after the operand.
+    fn take_this_before(
+        &mut self,
+        limited: bool,
+        symbol: Sym,
+        token: Token,
+        after: Sym,
+    ) -> Result<bool, StepFault>
+        requires sound { IsSound self.old.maker }
+        requires size { size self.old + 32 < 2 ^ 32 }
+        requires closed { opens token.kind ≡ false }
+        ensures answers { AnswersBuild limited symbol token (builds.Take (Make (does.PushPlace token.at) ∷ Read syms.ADot ∷ Read syms.AName ∷ Read syms.ThisAtom ∷ Read after ∷ [])) (state_of self.old) (state_of self.new) result }
+        ensures ok { IfOk result (λ taken. taken ≡ true) }
+        ensures sound { OnOk result (IsSound self.new.maker) }
+        ensures texts { OnOk result (KeepsTexts self.old.maker.package self.new.maker.package) }
+        ensures refused { IfErr result (λ stop. KeepsAt stop self.old.maker.package self.new.maker.package) }
+        ensures size { OnOk result (size self.new ≤ size self.old + 32) }
+    {
+        self.make(Action::PushPlace(token.at))?;
+        self.wants.push(Want::Read(after))?;
+        self.wants.push(Want::Read(Sym::ThisAtom))?;
+        self.wants.push(Want::Read(Sym::AName))?;
+        self.wants.push(Want::Read(Sym::ADot))?;
+        Ok(true)
+    }
+
+    /// An `args` is taken that begins an operand.
+    fn take_args(&mut self, limited: bool, symbol: Sym, token: Token) -> Result<bool, StepFault>
+        requires sound { IsSound self.old.maker }
+        requires size { size self.old + 32 < 2 ^ 32 }
+        requires closed { opens token.kind ≡ false }
+        ensures answers { AnswersBuild limited symbol token (builds.Take (Make (does.PushPlace token.at) ∷ Read syms.ADot ∷ Read syms.AName ∷ Make does.ArgsPath ∷ Read syms.PathAtom ∷ [])) (state_of self.old) (state_of self.new) result }
+        ensures ok { IfOk result (λ taken. taken ≡ true) }
+        ensures sound { OnOk result (IsSound self.new.maker) }
+        ensures texts { OnOk result (KeepsTexts self.old.maker.package self.new.maker.package) }
+        ensures refused { IfErr result (λ stop. KeepsAt stop self.old.maker.package self.new.maker.package) }
+        ensures size { OnOk result (size self.new ≤ size self.old + 32) }
+    {
+        self.make(Action::PushPlace(token.at))?;
+        self.wants.push(Want::Read(Sym::PathAtom))?;
+        self.wants.push(Want::Make(Action::ArgsPath))?;
+        self.wants.push(Want::Read(Sym::AName))?;
+        self.wants.push(Want::Read(Sym::ADot))?;
+        Ok(true)
+    }
+
+    /// The same, and `after` is wanted after the operand.
+    fn take_args_before(
+        &mut self,
+        limited: bool,
+        symbol: Sym,
+        token: Token,
+        after: Sym,
+    ) -> Result<bool, StepFault>
+        requires sound { IsSound self.old.maker }
+        requires size { size self.old + 32 < 2 ^ 32 }
+        requires closed { opens token.kind ≡ false }
+        ensures answers { AnswersBuild limited symbol token (builds.Take (Make (does.PushPlace token.at) ∷ Read syms.ADot ∷ Read syms.AName ∷ Make does.ArgsPath ∷ Read syms.PathAtom ∷ Read after ∷ [])) (state_of self.old) (state_of self.new) result }
+        ensures ok { IfOk result (λ taken. taken ≡ true) }
+        ensures sound { OnOk result (IsSound self.new.maker) }
+        ensures texts { OnOk result (KeepsTexts self.old.maker.package self.new.maker.package) }
+        ensures refused { IfErr result (λ stop. KeepsAt stop self.old.maker.package self.new.maker.package) }
+        ensures size { OnOk result (size self.new ≤ size self.old + 32) }
+    {
+        self.make(Action::PushPlace(token.at))?;
+        self.wants.push(Want::Read(after))?;
+        self.wants.push(Want::Read(Sym::PathAtom))?;
+        self.wants.push(Want::Make(Action::ArgsPath))?;
+        self.wants.push(Want::Read(Sym::AName))?;
+        self.wants.push(Want::Read(Sym::ADot))?;
+        Ok(true)
+    }
+
+    /// A `(` is taken that begins an operand.
+    fn take_round(&mut self, limited: bool, symbol: Sym, token: Token) -> Result<bool, StepFault>
+        requires sound { IsSound self.old.maker }
+        requires size { size self.old + 32 < 2 ^ 32 }
+        ensures answers { AnswersBuild limited symbol token (builds.Take (Read syms.Expr ∷ Read syms.RightRound ∷ [])) (state_of self.old) (state_of self.new) result }
+        ensures ok { IfOk result (λ taken. taken ≡ true) }
+        ensures sound { OnOk result (IsSound self.new.maker) }
+        ensures texts { OnOk result (KeepsTexts self.old.maker.package self.new.maker.package) }
+        ensures refused { IfErr result (λ stop. KeepsAt stop self.old.maker.package self.new.maker.package) }
+        ensures size { OnOk result (size self.new ≤ size self.old + 32) }
+    {
+        if limited && opens(token.kind) && self.is_deep(symbol) {
+            return Err(StepFault::Refused(Rule::L4));
+        }
+        self.wants.push(Want::Read(Sym::RightRound))?;
+        self.wants.push(Want::Read(Sym::Expr))?;
+        Ok(true)
+    }
+
+    /// The same, and `after` is wanted after the operand.
+    fn take_round_before(
+        &mut self,
+        limited: bool,
+        symbol: Sym,
+        token: Token,
+        after: Sym,
+    ) -> Result<bool, StepFault>
+        requires sound { IsSound self.old.maker }
+        requires size { size self.old + 32 < 2 ^ 32 }
+        ensures answers { AnswersBuild limited symbol token (builds.Take (Read syms.Expr ∷ Read syms.RightRound ∷ Read after ∷ [])) (state_of self.old) (state_of self.new) result }
+        ensures ok { IfOk result (λ taken. taken ≡ true) }
+        ensures sound { OnOk result (IsSound self.new.maker) }
+        ensures texts { OnOk result (KeepsTexts self.old.maker.package self.new.maker.package) }
+        ensures refused { IfErr result (λ stop. KeepsAt stop self.old.maker.package self.new.maker.package) }
+        ensures size { OnOk result (size self.new ≤ size self.old + 32) }
+    {
+        if limited && opens(token.kind) && self.is_deep(symbol) {
+            return Err(StepFault::Refused(Rule::L4));
+        }
+        self.wants.push(Want::Read(after))?;
+        self.wants.push(Want::Read(Sym::RightRound))?;
+        self.wants.push(Want::Read(Sym::Expr))?;
+        Ok(true)
+    }
+
+    /// An operator is taken that stands between two operands.
+    fn take_binary(&mut self, limited: bool, token: Token, op: Op) -> Result<bool, StepFault>
+        requires sound { IsSound self.old.maker }
+        requires size { size self.old + 32 < 2 ^ 32 }
+        requires closed { opens token.kind ≡ false }
+        ensures answers { AnswersBuild limited syms.Rest token (builds.Take (Make (does.StartChain op token.at) ∷ Make (does.PushPlace token.at) ∷ Read syms.Operand ∷ Make does.AddLink ∷ Make does.FinishChain ∷ Read syms.End ∷ [])) (state_of self.old) (state_of self.new) result }
+        ensures ok { IfOk result (λ taken. taken ≡ true) }
+        ensures sound { OnOk result (IsSound self.new.maker) }
+        ensures texts { OnOk result (KeepsTexts self.old.maker.package self.new.maker.package) }
+        ensures refused { IfErr result (λ stop. KeepsAt stop self.old.maker.package self.new.maker.package) }
+        ensures size { OnOk result (size self.new ≤ size self.old + 32) }
+    {
+        self.maker.perform_lead(Lead::Chain { op, at: token.at })?;
+        self.wants.push(Want::Read(Sym::End))?;
+        self.wants.push(Want::Make(Action::FinishChain))?;
+        self.wants.push(Want::Make(Action::AddLink))?;
+        self.wants.push(Want::Read(Sym::Operand))?;
+        Ok(true)
+    }
+
+    /// An operator is taken that makes a chain.
+    fn take_chain(&mut self, limited: bool, token: Token, op: Op) -> Result<bool, StepFault>
+        requires sound { IsSound self.old.maker }
+        requires size { size self.old + 32 < 2 ^ 32 }
+        requires closed { opens token.kind ≡ false }
+        ensures answers { AnswersBuild limited syms.Rest token (builds.Take (Make (does.StartChain op token.at) ∷ Make (does.PushPlace token.at) ∷ Read syms.Operand ∷ Make does.AddLink ∷ Read (syms.Links op) ∷ [])) (state_of self.old) (state_of self.new) result }
+        ensures ok { IfOk result (λ taken. taken ≡ true) }
+        ensures sound { OnOk result (IsSound self.new.maker) }
+        ensures texts { OnOk result (KeepsTexts self.old.maker.package self.new.maker.package) }
+        ensures refused { IfErr result (λ stop. KeepsAt stop self.old.maker.package self.new.maker.package) }
+        ensures size { OnOk result (size self.new ≤ size self.old + 32) }
+    {
+        self.maker.perform_lead(Lead::Chain { op, at: token.at })?;
+        self.wants.push(Want::Read(Sym::Links(op)))?;
+        self.wants.push(Want::Make(Action::AddLink))?;
+        self.wants.push(Want::Read(Sym::Operand))?;
+        Ok(true)
+    }
+
     /// A name, where one is wanted.
     fn read_name(&mut self, limited: bool, token: Token) -> Result<bool, StepFault>
         requires sound { IsSound self.old.maker }
@@ -399,7 +591,7 @@ impl Machine {
         }
     }
 
-    /// An operand. Most are a number or begin with a name.
+    /// An operand. Most are a number, or begin with a name, `this`, `args` or a bracket.
     fn read_operand(&mut self, limited: bool, token: Token) -> Result<bool, StepFault>
         requires sound { IsSound self.old.maker }
         requires size { size self.old + 32 < 2 ^ 32 }
@@ -427,11 +619,14 @@ impl Machine {
                 Action::BarePath(Name { text, at: token.at }),
                 Sym::PathAtom,
             ),
+            Kind::OpenRound => self.take_round(limited, Sym::Operand, token),
+            Kind::This => self.take_this(limited, Sym::Operand, token),
+            Kind::Args => self.take_args(limited, Sym::Operand, token),
             _ => self.read_list(limited, Sym::Operand, token),
         }
     }
 
-    /// An expression. Most begin with a number or a name.
+    /// An expression. Most begin with a number, a name, `this`, `args` or a bracket.
     fn read_expr(&mut self, limited: bool, token: Token) -> Result<bool, StepFault>
         requires sound { IsSound self.old.maker }
         requires size { size self.old + 32 < 2 ^ 32 }
@@ -461,7 +656,28 @@ impl Machine {
                 Sym::PathAtom,
                 Sym::Rest,
             ),
+            Kind::OpenRound => self.take_round_before(limited, Sym::Expr, token, Sym::Rest),
+            Kind::This => self.take_this_before(limited, Sym::Expr, token, Sym::Rest),
+            Kind::Args => self.take_args_before(limited, Sym::Expr, token, Sym::Rest),
             _ => self.read_list(limited, Sym::Expr, token),
+        }
+    }
+
+    /// What may follow the first operand.
+    fn read_rest(&mut self, limited: bool, token: Token) -> Result<bool, StepFault>
+        requires sound { IsSound self.old.maker }
+        requires size { size self.old + 32 < 2 ^ 32 }
+        ensures answers { AnswersBuild limited syms.Rest token (build syms.Rest token.kind token.at) (state_of self.old) (state_of self.new) result }
+        ensures sound { OnOk result (IsSound self.new.maker) }
+        ensures texts { OnOk result (KeepsTexts self.old.maker.package self.new.maker.package) }
+        ensures refused { IfErr result (λ stop. KeepsAt stop self.old.maker.package self.new.maker.package) }
+        ensures below { IfOk result (λ taken. taken ≡ false → self.new.wants ≡ self.old.wants) }
+        ensures size { IfOk result (λ taken. size self.new ≤ size self.old + (if taken then 32 else 2)) }
+    {
+        match token.kind {
+            Kind::Binary(op) => self.take_binary(limited, token, op),
+            Kind::Chain(op) => self.take_chain(limited, token, op),
+            _ => self.read_symbol(limited, Sym::Rest, token),
         }
     }
 
@@ -542,6 +758,7 @@ impl Machine {
             Sym::Expr => self.read_expr(limited, token),
             Sym::Items => self.read_items(limited, token),
             Sym::MoreItems => self.read_more_items(limited, token),
+            Sym::Rest => self.read_rest(limited, token),
             _ => self.read_symbol(limited, symbol, token),
         }
     }

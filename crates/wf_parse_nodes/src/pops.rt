@@ -7,6 +7,7 @@ ghost use Rattle.wf_parse_nodes.specs.declared.values.SemanticValue.TheVariants 
 
 use crate::values::{OpenChain, OpenCore, SemanticValue, Sign};
 use stacks::Stack;
+use std::mem::ManuallyDrop;
 use wf_ast::parsed::{
     Arm, Block, Bounds, Call, Field, Given, LoopClause, Name, Path, Prefix, Receiver, Target,
     TypeExpr, Via, WrittenMark,
@@ -14,9 +15,11 @@ use wf_ast::parsed::{
 use wf_ast::{ExprId, Sequence, StmtId};
 use wf_text::Place;
 
-/// Lets go of what was on the top.
+/// Lets go of what was on the top, which holds no memory.
 #[inline(always)]
-fn lost(_top: Option<SemanticValue>) {}
+fn lost(top: Option<SemanticValue>) {
+    let _kept = ManuallyDrop::new(top);
+}
 
 /// Takes a name or a text from the top.
 pub(crate) fn pop_name(values: &mut Stack<SemanticValue>) -> Name
