@@ -1,22 +1,15 @@
 -- Facts come into the list.
 use Rattle.std.proofs.Common.{◌≡◌, ℕ, zero, suc, ◌+◌, ◌<◌, ◌≤◌, Bool, true, false, not, ◌&&◌, ◌||◌, List, [], ◌∷◌, ◌++◌, length, get_or, take, drop, map, refl, sym, ap, ◌∙◌, subst, arith}
-use Rattle.std.specs.Prelude.{filter, nat_eq, Option, None, Some}
+use Rattle.std.specs.Prelude.{filter, nat_eq}
 use Rattle.std.proofs.lemmas.List.{take_more, drop_more, length-take-le, length-map, map-append}
 use Rattle.std.proofs.lemmas.List.Elements.{All-push}
 use Rattle.wf_ast.specs.declared.things.Thing.{Thing}
 use Rattle.wf_ast.specs.declared.things.Thing.TheVariants as things
 use Rattle.wf_ast.specs.declared.typed_nodes.TypedNodes.{TypedNodes}
-use Rattle.wf_ast.specs.TypedTree.{NumTree, number}
-use Rattle.wf_ast.specs.Same.{same_num, same_order}
-use Rattle.wf_facts_exprs.specs.declared.facts.Side.{Side}
-use Rattle.wf_facts_exprs.specs.declared.facts.Side.TheVariants as sides
 use Rattle.wf_facts_exprs.specs.declared.facts.Fact.{Fact}
-use Rattle.wf_facts_exprs.specs.declared.facts.Fact.TheVariants as facts
-use Rattle.wf_facts_exprs.specs.Claims.{Claim, claim_in, claims_in, claim_mentions, same_claim, same_side, side_in, tree_of_side, order_of, is_among, is_fact}
+use Rattle.wf_facts_exprs.specs.Claims.{Claim, claim_in, claims_in, claim_mentions, same_claim, is_among, is_fact}
 use Rattle.wf_facts.specs.declared.sets.FactSet.{FactSet}
 use Rattle.wf_facts.specs.Sets.{member, members, IsSetOf, unmarked}
-use Rattle.wf_facts.specs.Forms.{number_in}
-use Rattle.wf_facts.specs.PlainNumbers.{plain_number_of_side, plain_number_of, told_apart}
 use Rattle.wf_facts.specs.FactLists.{common}
 use Rattle.wf_facts.specs.IndexedFacts.{FactList, IsOver, has_set, set_number, set_of, mentioning, words_at, thing_of}
 use Rattle.wf_facts.proofs.SetLemmas.{members_known, IsSetOf-put}
@@ -43,39 +36,6 @@ among_at nodes (f ∷ fs) (suc i) d c h same = by (same_claim (claim_in nodes f)
     by : (b : Bool) → is_among (claims_in nodes fs) c ≡ true → (b || is_among (claims_in nodes fs) c) ≡ true
     by true there = refl
     by false there = there
-
--- Facts that compare with two numbers are two.
-trees_apart : (t u : NumTree) (m n : ℕ) → number_in t ≡ Some m → number_in u ≡ Some n → not (nat_eq m n) ≡ true → same_num t u ≡ false
-trees_apart (number at k) (number at' l) m n left right apart = by (nat_eq k l) (cc (left, right, apart))
-  where
-    by : (b : Bool) → not b ≡ true → b ≡ false
-    by true h = absurd (cc (h))
-    by false h = refl
-trees_apart (number at k) u m n left right apart = absurd (cc (right))
-trees_apart t u m n left right apart = absurd (cc (left))
-
-plain_is : (nodes : TypedNodes) (side : Side) (n : ℕ) → plain_number_of_side nodes side ≡ Some n → number_in (tree_of_side (side_in nodes side)) ≡ Some n
-plain_is nodes (sides.Expr e) n h = h
-plain_is nodes (sides.Num m) n h = h
-plain_is nodes side n h = absurd (cc (h))
-
-never_both : (b c : Bool) → (b && (c && false)) ≡ false
-never_both true true = refl
-never_both true false = refl
-never_both false c = refl
-
-numbers_apart : (nodes : TypedNodes) (f g : Fact) (m n : Option ℕ) → plain_number_of nodes f ≡ m → plain_number_of nodes g ≡ n → told_apart m n ≡ true → same_claim (claim_in nodes f) (claim_in nodes g) ≡ false
-numbers_apart nodes f g None n i j apart = absurd (cc (apart))
-numbers_apart nodes f g (Some m) None i j apart = absurd (cc (apart))
-numbers_apart nodes (facts.Cond e answer) g (Some m) (Some n) i j apart = absurd (cc (i))
-numbers_apart nodes (facts.Compare l op r) (facts.Cond e answer) (Some m) (Some n) i j apart = absurd (cc (j))
-numbers_apart nodes (facts.Compare l op r) (facts.Compare l' op' r') (Some m) (Some n) i j apart =
-    ap (λ b. same_order (order_of op) (order_of op') && (same_side (side_in nodes l) (side_in nodes l') && b))
-    (trees_apart (tree_of_side (side_in nodes r)) (tree_of_side (side_in nodes r')) m n (plain_is nodes r m i) (plain_is nodes r' n j) apart)
-    ∙ never_both (same_order (order_of op) (order_of op')) (same_side (side_in nodes l) (side_in nodes l'))
-
-pub facts_apart : (nodes : TypedNodes) (f g : Fact) (n : Option ℕ) → n ≡ plain_number_of nodes g → told_apart (plain_number_of nodes f) n ≡ true → same_claim (claim_in nodes f) (claim_in nodes g) ≡ false
-facts_apart nodes f g n is apart = numbers_apart nodes f g (plain_number_of nodes f) n refl (sym is) apart
 
 -- The marks of a test.
 pub marks-more : (p : Fact → Bool) (fs : List Fact) (i : ℕ) (d : Fact) → i < length fs → (words written : List ℕ) → IsSetOf words (map p (take i fs))

@@ -1,7 +1,7 @@
 // Facts come into the list.
 
-ghost use Rattle.std.specs.Prelude.{◌≡◌, ◌≤◌, ◌<◌, not, true, length, map, is_some, OnOk, OnErr, IfOk, IfSome, IsTrue};
-ghost use Rattle.wf_facts_exprs.specs.Claims.{claim_in, claims_in, is_among, is_fact, is_side, AreFacts};
+ghost use Rattle.std.specs.Prelude.{◌≡◌, ◌≤◌, ◌<◌, not, true, false, length, map, is_some, OnOk, OnErr, IfOk, IfSome, IsTrue};
+ghost use Rattle.wf_facts_exprs.specs.Claims.{claim_in, claims_in, is_among, is_fact, is_side, same_claim, AreFacts};
 ghost use Rattle.wf_facts.specs.FactLists.{added, common};
 ghost use Rattle.wf_facts.specs.IndexedFacts.{IsOver, IsFullFor};
 ghost use Rattle.wf_facts.specs.PlainNumbers.{plain_number_of_side, plain_number_of, told_apart};
@@ -10,7 +10,7 @@ ghost use Rattle.wf_facts.specs.Sets.{IsSetOf};
 use crate::forms::number;
 use crate::list::Facts;
 use crate::marking::mark;
-use crate::sameness::same_fact;
+use crate::sameness::{same_cmp, same_fact};
 use crate::sets::FactSet;
 use std::alloc::Global;
 use wf_ast::Typed;
@@ -84,7 +84,8 @@ fn stands_in(t: &Typed, list: &[Fact], f: Fact) -> bool
     place_in(t, list, f).is_some()
 }
 
-// A place of a list at which a fact stands. Most facts of long lists compare with numbers, and are told apart by these.
+// A place of a list at which a fact stands. Most facts of long lists are told apart by their operators, or by the numbers that
+// they compare with.
 fn place_in(t: &Typed, list: &[Fact], f: Fact) -> Option<usize>
     requires fact { is_fact t.now f ≡ true }
     requires facts { AreFacts t.now list.now }
@@ -93,7 +94,7 @@ fn place_in(t: &Typed, list: &[Fact], f: Fact) -> Option<usize>
 {
     let n = plain_number(t, f);
     for i in 0..list.len() {
-        if has_other_number(t, list[i], n) {
+        if are_seen_apart(t, &list[i], &f, n) {
             continue;
         }
         if same_fact(t, list[i], f) {
@@ -127,12 +128,20 @@ fn plain_side_number(t: &Typed, side: Side) -> Option<u64>
     }
 }
 
-// Whether a fact compares with a number, and with another one than this.
-fn has_other_number(t: &Typed, f: Fact, n: Option<u64>) -> bool
-    requires { is_fact t.now f ≡ true }
-    ensures { result ≡ told_apart (plain_number_of t.now f) n }
+// Whether two facts, of which the second compares with this number, are seen at once to be two.
+fn are_seen_apart(t: &Typed, f: &Fact, g: &Fact, n: Option<u64>) -> bool
+    requires first { is_fact t.now f.now ≡ true }
+    requires second { is_fact t.now g.now ≡ true }
+    requires number { n ≡ plain_number_of t.now g.now }
+    ensures { IsTrue result → same_claim (claim_in t.now f.now) (claim_in t.now g.now) ≡ false }
 {
-    are_apart(plain_number(t, f), n)
+    match (f, g) {
+        (Fact::Compare { op, right, .. }, Fact::Compare { op: other, .. }) => {
+            !same_cmp(*op, *other) || are_apart(plain_side_number(t, *right), n)
+        }
+        (Fact::Cond { .. }, Fact::Cond { .. }) => false,
+        _ => true,
+    }
 }
 
 // Whether these are two numbers.

@@ -42,6 +42,15 @@ impl Facts {
         Ok(Facts { list, sets })
     }
 
+    /// Lets go of all facts, and keeps their room.
+    pub fn clear(&mut self)
+        ensures empty { self.new.list ≡ [] }
+        ensures over { (nodes : TypedNodes) → IsOver nodes self.new }
+    {
+        self.list.clear();
+        self.sets.clear();
+    }
+
     /// How many facts stand in the list.
     pub fn len(&self) -> usize
         ensures value { result ≡ length self.now.list }

@@ -46,6 +46,13 @@ impl Sets {
         })
     }
 
+    /// None is in use any more.
+    pub(crate) fn clear(&mut self)
+        ensures { self.new ≡ [] }
+    {
+        self.list.clear();
+    }
+
     /// The set of a number.
     pub(crate) fn at(&self, k: usize) -> &FactSet
         ensures { result.now.words ≡ words_at self.now k }

@@ -6,7 +6,6 @@ ghost use Rattle.wf_ast.specs.Same.{same_cond, same_order};
 ghost use Rattle.wf_ast.specs.NodeKinds.{is_condition_at};
 ghost use Rattle.wf_facts_exprs.specs.Claims.{claim_in, same_claim, same_side as same_trees, is_fact, is_side, order_of, side_in};
 
-use crate::forms::side_number;
 use wf_ast::{ExprId, Typed, same};
 use wf_facts_exprs::{Cmp, Fact, Side, same_side};
 
@@ -41,22 +40,11 @@ fn same_sides(t: &Typed, left: Side, l: Side, right: Side, r: Side) -> bool
     requires r { is_side t.now r ≡ true }
     ensures { result ≡ (same_trees (side_in t.now left) (side_in t.now l) && same_trees (side_in t.now right) (side_in t.now r)) }
 {
-    !are_other_numbers(t, right, r) && (same_side(t, right, r) && same_side(t, left, l))
+    same_side(t, right, r) && same_side(t, left, l)
 }
 
-// Whether two sides are two numbers.
-fn are_other_numbers(t: &Typed, a: Side, b: Side) -> bool
-    requires a { is_side t.now a ≡ true }
-    requires b { is_side t.now b ≡ true }
-    ensures { result ≡ true → same_trees (side_in t.now a) (side_in t.now b) ≡ false }
-{
-    match (side_number(t, a), side_number(t, b)) {
-        (Some(m), Some(n)) => m != n,
-        _ => false,
-    }
-}
-
-fn same_cmp(op: Cmp, other: Cmp) -> bool
+/// Whether two facts compare alike.
+pub(crate) fn same_cmp(op: Cmp, other: Cmp) -> bool
     ensures { result ≡ same_order (order_of op) (order_of other) }
 {
     op as u8 == other as u8

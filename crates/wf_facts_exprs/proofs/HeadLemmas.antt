@@ -1,5 +1,5 @@
 -- Expressions that are told apart by the heads of their trees.
-use Rattle.std.proofs.Common.{◌≡◌, ℕ, ◌+◌, ◌<◌, Bool, true, false, not, ◌&&◌, List, length, get_or, drop, Option, Some, None, refl, sym, ap, subst, ◌∙◌}
+use Rattle.std.proofs.Common.{◌≡◌, ℕ, ◌+◌, ◌<◌, Bool, true, false, not, ◌&&◌, ◌||◌, List, length, get_or, drop, Option, Some, None, refl, sym, ap, subst, ◌∙◌}
 use Rattle.std.proofs.lemmas.List.{drop_more}
 use Rattle.wf_ast.specs.declared.numbers.ExprId.{ExprId}
 use Rattle.wf_ast.specs.declared.types.Ty.{Ty}
@@ -68,3 +68,18 @@ pub passed_next : (pass : Order → ℕ → Range → Range) (nodes : TypedNodes
     → passed pass (claims_in nodes (drop (i + 1) fs)) t r ≡ passed pass (claims_in nodes (drop i fs)) t r
 passed_next pass nodes fs i d t r h same =
     ap (passed pass (claims_in nodes (drop (i + 1) fs)) t) same ∙ sym (ap (λ gs. passed pass (claims_in nodes gs) t r) (drop_more fs i d h))
+
+pub met_next : (pass : Order → ℕ → Range → Range) (nodes : TypedNodes) (fs : List Fact) (i : ℕ) (d : Fact) (t : NumTree) (r q : Range) → i < length fs → q ≡ met_by pass (claim_in nodes (get_or fs i d)) t r
+    → passed pass (claims_in nodes (drop (i + 1) fs)) t q ≡ passed pass (claims_in nodes (drop i fs)) t r
+met_next pass nodes fs i d t r q h is = ap (passed pass (claims_in nodes (drop (i + 1) fs)) t) is ∙ sym (ap (λ gs. passed pass (claims_in nodes gs) t r) (drop_more fs i d h))
+
+neither : (a b : Bool) → (a || b) ≡ false → (a ≡ false) × (b ≡ false)
+neither true b h = absurd (cc (h))
+neither false b h = (refl, h)
+
+-- Where no fact so far makes anything of any range, and the next one doesn't, those after it make the same of a range as all.
+pub none_next : (pass : Order → ℕ → Range → Range) (nodes : TypedNodes) (fs : List Fact) (i : ℕ) (d : Fact) (t : NumTree) (a b : Bool) → i < length fs
+    → (b ≡ false → (q : Range) → q ≡ met_by pass (claim_in nodes (get_or fs i d)) t q)
+    → (a ≡ false → (q : Range) → passed pass (claims_in nodes (drop i fs)) t q ≡ passed pass (claims_in nodes fs) t q)
+    → (a || b) ≡ false → (q : Range) → passed pass (claims_in nodes (drop (i + 1) fs)) t q ≡ passed pass (claims_in nodes fs) t q
+none_next pass nodes fs i d t a b h next before none q = let p = neither a b none in passed_next pass nodes fs i d t q h (next p.1 q) ∙ before p.0 q

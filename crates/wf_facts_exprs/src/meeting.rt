@@ -3,6 +3,8 @@
 ghost use Rattle.std.specs.Prelude.{◌≡◌, ℕ, ◌<◌, ◌^◌, false, IsTrue, IfSome};
 ghost use Rattle.wf_num.specs.Ranges.{IsSmall};
 ghost use Rattle.wf_num.specs.declared.ranges.Range.{Range};
+ghost use Rattle.wf_ast.specs.declared.typed_nodes.TypedNodes.{TypedNodes};
+ghost use Rattle.wf_ast.specs.TypedTree.{NumTree};
 ghost use Rattle.wf_ast.specs.Same.{same_num};
 ghost use Rattle.wf_ast.specs.NodeKinds.{is_number_at};
 ghost use Rattle.wf_facts_exprs.specs.Claims.{AreFacts, claim_in, claims_in, is_fact, is_side, order_of, side_in, tree_of_side};
@@ -32,24 +34,48 @@ pub(crate) fn meet_facts(t: &Typed, facts: &[Fact], shape: Shape, r: Range) -> R
     ensures small { IsSmall r → IsSmall result }
 {
     let narrow = meet_by(t, facts, Pass::Narrow, shape, r);
-    meet_by(t, facts, Pass::Thin, shape, narrow)
+    if !narrow.thins {
+        return narrow.range;
+    }
+    meet_by(t, facts, Pass::Thin, shape, narrow.range).range
+}
+
+// What a pass makes of a range, and whether one of the facts compares by `<>`, so that the second pass may change it.
+#[derive(Clone, Copy)]
+struct Met {
+    range: Range,
+    thins: bool,
 }
 
 // The facts of one pass, in order.
-fn meet_by(t: &Typed, facts: &[Fact], pass: Pass, shape: Shape, r: Range) -> Range
+fn meet_by(t: &Typed, facts: &[Fact], pass: Pass, shape: Shape, r: Range) -> Met
     requires known { AreFacts t.now facts.now }
     requires shape { IsTrue (shape_fits t.now shape) }
-    ensures met { result ≡ passed (pass_of pass) (claims_in t.now facts.now) (shape_tree t.now shape) r }
-    ensures small { IsSmall r → IsSmall result }
+    ensures met { result.range ≡ passed (pass_of pass) (claims_in t.now facts.now) (shape_tree t.now shape) r }
+    ensures small { IsSmall r → IsSmall result.range }
+    ensures thin { result.thins ≡ false → (q : Range) → q ≡ passed (pass_of Pass.Thin) (claims_in t.now facts.now) (shape_tree t.now shape) q }
 {
     let mut met = r;
+    let mut thins = false;
     for fact in facts {
+        thins |= is_thinning(*fact);
         if is_passed_over(t, *fact, pass, shape) {
             continue;
         }
         met = meet_fact(t, *fact, pass, shape, met);
     }
-    met
+    Met { range: met, thins }
+}
+
+// Whether a fact is one of the second pass; every other leaves a range there as it is.
+#[tactic(auto, using(crate::proofs::PassLemmas::met_with_passed))]
+fn is_thinning(fact: Fact) -> bool
+    ensures { result ≡ false → (nodes : TypedNodes) (t : NumTree) (r : Range) → r ≡ met_by (pass_of Pass.Thin) (claim_in nodes fact) t r }
+{
+    match fact {
+        Fact::Compare { op, .. } => !passes_over(Pass::Thin, op),
+        Fact::Cond { .. } => false,
+    }
 }
 
 // Whether a fact is seen at once to leave every range as it is in a pass.

@@ -1,4 +1,4 @@
-use Rattle.std.proofs.Common.{◌≡◌, true, ◌∙◌, subst}
+use Rattle.std.proofs.Common.{◌≡◌, true, subst}
 use Rattle.wf_facts_exprs.specs.declared.facts.Side.{Side}
 use Rattle.wf_facts_exprs.specs.Claims.{same_side, side_in}
 use Rattle.wf_facts_exprs.proofs.SelfLemmas.{side-self}
@@ -9,6 +9,3 @@ returns-then-is_named_alike c =
     let one = side_in c.args.t.now c.args.a in
     let P : Side → Type 0 = λ s. true ≡ same_side one (side_in c.args.t.now s) in
     subst P (c.is_named_alike.ensures c.if-is_named_alike.true) (side-self one)
-
-pub returns-else-is_named_alike : goal.returns-else-is_named_alike
-returns-else-is_named_alike c = c.same_shapes.ensures ∙ c.shape_of.ensures.alike.left _ ∙ c.shape_of-else-is_named_alike.ensures.alike.right _
