@@ -10,6 +10,7 @@ use crate::accepted::Accepted;
 use crate::methods::check_method;
 use std::alloc::Global;
 use wf_ast::Typed;
+use wf_facts::Facts;
 use wf_points::points;
 use wf_points::table::Points;
 use wf_text::{MethodId, PhaseFault};
@@ -42,8 +43,9 @@ fn check_methods(alloc: Global, t: &Typed) -> Result<(), PhaseFault>
     requires { IsTyped t.now }
     ensures { Decides (facts_refusal t.now) result }
 {
+    let mut facts = Facts::new(alloc)?;
     for m in 0..t.methods() {
-        check_method(alloc, t, MethodId(m))?;
+        check_method(alloc, t, MethodId(m), &mut facts)?;
     }
     Ok(())
 }

@@ -28,19 +28,24 @@ fn walk_method(walk: &Walk, facts: &mut Facts) -> Result<Way, PhaseFault>
     walk_block(walk, u32::MAX, walk.t.body(walk.m), facts)
 }
 
-/// What the rules of facts refuse in a method.
-pub(crate) fn check_method(alloc: Global, t: &Typed, m: MethodId) -> Result<(), PhaseFault>
+/// What the rules of facts refuse in a method. Whatever the list holds is let go of; its room is used.
+pub(crate) fn check_method(
+    alloc: Global,
+    t: &Typed,
+    m: MethodId,
+    facts: &mut Facts,
+) -> Result<(), PhaseFault>
     requires ready { IsReady t.now m.0 }
     ensures { Decides (method_refusal t.now m.0) result }
 {
-    let mut facts = start(alloc, t, m)?;
+    start(t, m, facts);
     let walk = Walk {
         alloc,
         t,
         m,
         sought: None,
     };
-    walk_method(&walk, &mut facts)?;
+    walk_method(&walk, facts)?;
     Ok(())
 }
 
@@ -55,7 +60,8 @@ pub(crate) fn look_in(
     requires sound { method_refusal t.now m.0 ≡ None }
     ensures { IfOk result (TellsKnown t.now (method_front t.now m.0 s)) }
 {
-    let mut facts = start(alloc, t, m)?;
+    let mut facts = Facts::new(alloc)?;
+    start(t, m, &mut facts);
     let walk = Walk {
         alloc,
         t,

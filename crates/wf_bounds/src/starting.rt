@@ -1,30 +1,28 @@
 // What is known where a method begins: each of its numeric locals is 0.
 
-ghost use Rattle.std.specs.Prelude.{◌≡◌, ◌<◌, ◌+◌, length, slice_get, true, IfOk, IfSome};
+ghost use Rattle.std.specs.Prelude.{◌≡◌, ◌<◌, ◌+◌, length, slice_get, true, IfSome};
 ghost use Rattle.wf_ast.specs.TypedTrees.{type_of_node};
 ghost use Rattle.wf_ast.specs.TypedInvariant.{is_numeric};
 ghost use Rattle.wf_facts_exprs.specs.Claims.{claims_in};
 ghost use Rattle.wf_facts.specs.IndexedFacts.{IsOver};
 ghost use Rattle.wf_bounds.specs.MethodWalks.{start_facts, zeros_before, IsReady, LocalFound};
 
-use std::alloc::Global;
 use wf_ast::{ExprId, LocalId, Ty, Typed};
 use wf_facts::Facts;
 use wf_facts_exprs::{Cmp, Fact, Side};
-use wf_text::{MethodId, NoMemory};
+use wf_text::MethodId;
 
-/// The list with which a method begins.
-pub(crate) fn start(alloc: Global, t: &Typed, m: MethodId) -> Result<Facts, NoMemory>
+/// Makes a list the one with which a method begins.
+pub(crate) fn start(t: &Typed, m: MethodId, facts: &mut Facts)
     requires ready { IsReady t.now m.0 }
-    ensures over { IfOk result (λ facts. IsOver t.now facts) }
-    ensures starts { IfOk result (λ facts. claims_in t.now facts.list ≡ start_facts t.now m.0) }
+    ensures over { IsOver t.now facts.new }
+    ensures starts { claims_in t.now facts.new.list ≡ start_facts t.now m.0 }
 {
-    let mut facts = Facts::new(alloc)?;
+    facts.clear();
     let locals = t.method(m).locals.as_slice();
     for x in 0..locals.len() {
-        start_local(t, m, LocalId(x as u32), &mut facts);
+        start_local(t, m, LocalId(x as u32), facts);
     }
-    Ok(facts)
 }
 
 // Makes known that a local is 0, if it is numeric, where this is known of those before it.

@@ -8,7 +8,7 @@ loop-m-init c = refusal_first c.args.t.now c.requires
 
 pub returns-in_err-check_method : goal.returns-in_err-check_method
 returns-in_err-check_method c =
-    let r = err_from_is_err_and c.from_residual.result c.from_residual.ensures.1 in
+    let r = err_from_is_err_and c.from_residual-in_err-check_method.result c.from_residual-in_err-check_method.ensures.1 in
     let t = c.loop-m-test.true in
     let n = c.methods-m-end.ensures in
     rw (r.1, r.2) (refusal_stops c.args.t.now c.requires c.loop-m.m (omega (arith, t, n)) c.in_err-check_method.field-0.0 c.loop-m.invariant c.in_err-check_method.ensures)

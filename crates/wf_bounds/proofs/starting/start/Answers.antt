@@ -5,7 +5,7 @@ use Rattle.wf_bounds.proofs.StartLemmas.{zeros_none, zeros_all, few_locals, loca
 use Rattle.wf_bounds.proofs.starting.start.Goals as goal
 
 pub loop-x-init : goal.loop-x-init
-loop-x-init c = (c.in_ok-facts.ensures.over c.args.t.now, ap (claims_in c.args.t.now) c.in_ok-facts.ensures.empty ∙ sym (zeros_none c.args.t.now c.args.m.0))
+loop-x-init c = (c.clear.ensures.over c.args.t.now, ap (claims_in c.args.t.now) c.clear.ensures.empty ∙ sym (zeros_none c.args.t.now c.args.m.0))
 
 pub overflow_cast-x : goal.overflow_cast-x
 overflow_cast-x c =
