@@ -16,10 +16,12 @@ use crate::taking::TakingFault;
 use crate::words::PackageWords;
 use c_text::{Unit, print, printed_is_a_text};
 use std::alloc::Global;
+use std::mem::ManuallyDrop;
 use wf_lower::lower;
 use wf_outside::{Inputs, Sink};
 
-/// Lowers the package with these words. Ok is the unit of its C text.
+/// Lowers the package with these words. Ok is the unit of its C text. The package itself is left in memory, since the text is the last
+/// that is made.
 pub(crate) fn lower_package<I: Inputs>(
     alloc: Global,
     asked: PackageWords<'_>,
@@ -33,7 +35,8 @@ pub(crate) fn lower_package<I: Inputs>(
     ensures same { I.held inputs.new ≡ I.held inputs.old }
 {
     let accepted = accept_package(alloc, asked, inputs)?;
-    let unit = lower(alloc, &accepted)?;
+    let kept = ManuallyDrop::new(accepted);
+    let unit = lower(alloc, &*kept)?;
     Ok(unit)
 }
 

@@ -22,6 +22,7 @@ use crate::taking::TakingFault;
 use crate::words::{Command, PackageWords, TextWords, command_of, file_name, input_name};
 use c_step::Loader;
 use std::alloc::{AllocError, Global};
+use std::mem::ManuallyDrop;
 use wf_outside::{Inputs, Sink};
 use wf_script::ScriptFault;
 use wf_script_drive::DriveEnd;
@@ -179,7 +180,10 @@ fn generate<I: Inputs, O: Sink>(
     ensures same { I.held inputs.new ≡ I.held inputs.old }
 {
     match lower_package(alloc, asked, inputs) {
-        Ok(unit) => write_unit(&unit, out),
+        Ok(unit) => {
+            let kept = ManuallyDrop::new(unit);
+            write_unit(&*kept, out)
+        }
         Err(fault) => tell(fault_answer(alloc, asked.files, "", "", fault), out),
     }
 }

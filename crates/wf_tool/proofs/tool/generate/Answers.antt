@@ -1,4 +1,4 @@
-use Rattle.std.proofs.Common.{[]}
+use Rattle.std.proofs.Common.{[], ◌∙◌}
 use Rattle.wf_tool.specs.Told.{GenTold, IsFaultTold, IsTextOfUnit, IsTold}
 use Rattle.wf_tool.specs.Views.{words_seen}
 use Rattle.wf_tool.proofs.FaultLines.{gen-fault-told, told-answer}
@@ -15,7 +15,7 @@ returns-in-Ok-clause-written g c =
     let now = g.I.Inputs.faults c.lower_package.new.inputs in
     let unit = c.in-Ok.unit in
     writes-more (IsTextOfUnit unit) (GenTold held failed asked before now) (unit-told held failed asked before now c.in-Ok.ensures.count unit c.in-Ok.ensures.verdict)
-    (g.O.Sink.written c.args.out.now) (g.O.Sink.written c.write_unit.new.out) (g.O.Sink.room c.args.out.now) c.write_unit.result c.write_unit.ensures.written
+    (g.O.Sink.written c.args.out.now) (g.O.Sink.written c.write_unit.new.out) (g.O.Sink.room c.args.out.now) c.write_unit.result (rw (c.deref.ensures ∙ c.new-kept.ensures) at c.write_unit.ensures.written)
 
 pub returns-in-Err-clause-written : goal.returns-in-Err-clause-written
 returns-in-Err-clause-written g c =
@@ -33,7 +33,7 @@ returns-in-Err-clause-written g c =
 pub returns-in-Ok-clause-lawful : goal.returns-in-Ok-clause-lawful
 returns-in-Ok-clause-lawful g c =
     unit-lawful (g.I.Inputs.held c.args.inputs.now) (words_seen c.args.asked) (g.O.Sink.written c.args.out.now) (g.O.Sink.written c.write_unit.new.out) (g.O.Sink.room c.args.out.now) c.in-Ok.unit
-    c.in-Ok.ensures.verdict c.write_unit.ensures.spelt c.write_unit.result c.write_unit.ensures.written
+    c.in-Ok.ensures.verdict (rw (c.deref.ensures ∙ c.new-kept.ensures) at c.write_unit.ensures.spelt) c.write_unit.result (rw (c.deref.ensures ∙ c.new-kept.ensures) at c.write_unit.ensures.written)
 
 pub returns-in-Err-clause-lawful : goal.returns-in-Err-clause-lawful
 returns-in-Err-clause-lawful g c =
