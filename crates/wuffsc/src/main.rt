@@ -9,7 +9,7 @@ use wf_outside::{FileInputs, StdSink};
 use wf_tool::{Ending, wuffs_tool};
 
 /// How large the block is, in bytes, that is taken and given back before all else.
-const FIRST_BLOCK: usize = 4 * 1024 * 1024;
+const FIRST_BLOCK: usize = 16 * 1024 * 1024;
 
 /// Runs the command that the words after the program's own name call for.
 fn main(rt: HostRuntime) -> ExitCode {
