@@ -13,7 +13,7 @@ writes, one after another in turn, with the factor of `gen`, which checks the pa
 are skipped.
 With --written, `gen` and `tcc -c` are compared alone, on each package of examples/ and tests/decoders/ and on those of WRITTEN, 1,024
 methods, a method of 1,024 points, 840 coroutines that are a page long each, and the packages of these folders five times in one: the
-least time of several runs in turn, and the instructions of both, where valgrind is there. Where `gen` takes more instructions than
+least time of twenty runs in turn, and the instructions of both, where valgrind is there. Where `gen` takes more instructions than
 `tcc -c`, the run ends with 1.
 """
 import math
@@ -33,6 +33,8 @@ ROOT = pathlib.Path(__file__).resolve().parent.parent
 
 COMPILERS = {"tcc": ["tcc", "-c"], "gcc": ["gcc", "-std=c99", "-O0", "-c"]}
 ROUNDS = 3
+# How often gen and tcc are run in turn with --written; few runs differ by a fifth.
+TURNS = 20
 
 
 def fields(n):
@@ -155,10 +157,10 @@ def instructions(words, folder):
     return int(re.search(r"I\s+refs:\s+([\d,]+)", ran.stderr)[1].replace(",", ""))
 
 
-def beside_tcc(program, folder, name, package, rounds):
+def beside_tcc(program, folder, name, package):
     """Compares `gen` with `tcc -c` on one package; whether it takes no more instructions."""
     gen, tcc = [program, "gen", "n", package], ["tcc", "-c", "n.c", "-o", "n.o"]
-    times = [(seconds(gen, folder, "n.c"), seconds(tcc, folder, "said")) for _ in range(rounds)]
+    times = [(seconds(gen, folder, "n.c"), seconds(tcc, folder, "said")) for _ in range(TURNS)]
     least = [min(took) for took in zip(*times)]
     shown = f"{name:22} {os.path.getsize(package):8} bytes, {(folder / 'n.c').stat().st_size:8} of C: gen {least[0] * 1e3:8.2f} ms, tcc {least[1] * 1e3:8.2f} ms, factor {least[0] / least[1]:.2f}"
     if not shutil.which("valgrind"):
@@ -174,11 +176,11 @@ def written(program, folder):
     if not shutil.which("tcc"):
         print("there is no tcc, so gen wasn't compared with it")
         return True
-    good = [beside_tcc(program, folder, str(package.relative_to(ROOT)), package, 20) for package in written_packages()]
+    good = [beside_tcc(program, folder, str(package.relative_to(ROOT)), package) for package in written_packages()]
     for name, size in WRITTEN.items():
         package = folder / f"{name}.wuffs"
         package.write_text(SHAPES[name][0](size))
-        good.append(beside_tcc(program, folder, name, package, 5))
+        good.append(beside_tcc(program, folder, name, package))
     return all(good)
 
 
