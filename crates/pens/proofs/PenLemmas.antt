@@ -14,7 +14,7 @@ append_nil : (xs : List ℕ) → xs ++ [] ≡ xs
 append_nil [] = refl
 append_nil (x ∷ xs) = ap (λ ys. x ∷ ys) (append_nil xs)
 
-longest_put : (before now : Option ℕ) (count : ℕ) → count ≤ 16384 → now ≡ longest_with before count → KeepsLongest before now
+longest_put : (before now : Option ℕ) (count : ℕ) → count ≤ 4096 → now ≡ longest_with before count → KeepsLongest before now
 longest_put before now count small is most was = (max most count, is ∙ ap (λ o. longest_with o count) was, omega arith, omega (arith, small))
 
 room_failed : (before now : Option ℕ) (fault : SinkFault) (count : ℕ) → FitsRoom before now (Err fault) count → (room : ℕ) → before ≡ Some room → room < count
@@ -27,7 +27,7 @@ room_failed (Some r) now fault count fits room is =
     ]
 
 -- a part of the buffer was put
-pub put_part : (old new : PenState) (fault : SinkFault) → old.failed ≡ false → new.failed ≡ true → length old.waiting ≤ 16384 → Appends old.written new.written (take fault.gone old.waiting) → new.sent ≡ cut (old.sent + length (take fault.gone old.waiting)) → old.faults < new.faults → FitsRoom old.room new.room (Err fault) (length old.waiting) → new.longest ≡ longest_with old.longest (length old.waiting) → Wrote old new []
+pub put_part : (old new : PenState) (fault : SinkFault) → old.failed ≡ false → new.failed ≡ true → length old.waiting ≤ 4096 → Appends old.written new.written (take fault.gone old.waiting) → new.sent ≡ cut (old.sent + length (take fault.gone old.waiting)) → old.faults < new.faults → FitsRoom old.room new.room (Err fault) (length old.waiting) → new.longest ≡ longest_with old.longest (length old.waiting) → Wrote old new []
 put_part old new fault fine_before failed small written sent faults room longest =
     let flows : Flows old new [] = record {
       taken = take fault.gone old.waiting;

@@ -29,9 +29,9 @@ abbrev pub Prints : Option (List ℕ) → Option (List ℕ) → Result (Unit {0}
 Prints before now (Ok _) text = Appends before now text
 Prints before now (Err fault) text = (count : ℕ) × Appends before now (take count text) × (count ≤ length text) × (fault.gone ≡ cut count)
 
--- No piece longer than 16,384 bytes was put.
+-- No piece longer than 4,096 bytes was put.
 abbrev pub KeepsLongest : Option ℕ → Option ℕ → Type 0
-KeepsLongest before now = (most : ℕ) → before ≡ Some most → (longest : ℕ) × (now ≡ Some longest) × (most ≤ longest) × (longest ≤ max 16384 most)
+KeepsLongest before now = (most : ℕ) → before ≡ Some most → (longest : ℕ) × (now ≡ Some longest) × (most ≤ longest) × (longest ≤ max 4096 most)
 
 -- The sink has taken `taken`. No put failed: what it hasn't taken waits, and a room that holds both has fallen.
 -- A put failed: a room doesn't hold both.

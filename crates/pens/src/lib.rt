@@ -1,4 +1,4 @@
-// Writing a text into a sink, in pieces of at most 16,384 bytes and without memory.
+// Writing a text into a sink, in pieces of at most 4,096 bytes and without memory.
 #![tactic(auto)]
 
 pub mod writing;

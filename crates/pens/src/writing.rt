@@ -1,5 +1,5 @@
 // Where a written text goes. It is written over any pen, in pieces of any length; the pen over a sink hands them on
-// in pieces of at most 16,384 bytes.
+// in pieces of at most 4,096 bytes.
 
 ghost use Rattle.std.specs.Prelude.{◌≡◌, ℕ, ◌+◌, ◌-◌, ◌^◌, ◌<◌, ◌≤◌, ◌++◌, ◌∷◌, [], Bool, true, false, List, length};
 ghost use Rattle.pens.specs.Pens.{Wrote, pen_state, failed_at};
@@ -32,11 +32,11 @@ pub trait Pen {
     ghost joined: { (a b c : Self) (x y : List ℕ) → writes a b x → writes b c y → writes a c (x ++ y) };
 }
 
-/// Hands a text to a sink in pieces of at most 16,384 bytes. After the first fault nothing more is put.
+/// Hands a text to a sink in pieces of at most 4,096 bytes. After the first fault nothing more is put.
 #[derive(Drop)]
 pub struct SinkPen<'a, O: Sink> {
     out: &'a mut O,
-    buffer: [u8; 16384],
+    buffer: [u8; 4096],
     filled: usize,
     /// How many bytes the sink has taken, up to 2^64 - 1.
     sent: usize,
@@ -56,7 +56,7 @@ impl<'a, O: Sink> SinkPen<'a, O> {
     {
         SinkPen {
             out,
-            buffer: [0; 16384],
+            buffer: [0; 4096],
             filled: 0,
             sent: 0,
             failed: false,
@@ -65,11 +65,11 @@ impl<'a, O: Sink> SinkPen<'a, O> {
 
     /// Puts the waiting bytes, where no put has failed.
     fn flush(&mut self)
-        requires filled { self.old.filled ≤ 16384 }
+        requires filled { self.old.filled ≤ 4096 }
         requires sent { self.old.sent < 2 ^ 64 }
         requires countable { self.old.failed ≡ false → O.faults self.old.out.now < 2 ^ 64 - 1 }
         ensures same { self.new.out.ghost_name ≡ self.old.out.ghost_name }
-        ensures filled { self.new.filled ≤ 16384 }
+        ensures filled { self.new.filled ≤ 4096 }
         ensures sent { self.new.sent < 2 ^ 64 }
         ensures countable { self.new.failed ≡ false → O.faults self.new.out.now < 2 ^ 64 - 1 }
         ensures empty { self.new.failed ≡ false → self.new.filled ≡ 0 }
@@ -91,28 +91,28 @@ impl<'a, O: Sink> SinkPen<'a, O> {
 
     /// Puts the waiting bytes where no further one fits after them.
     fn make_room(&mut self)
-        requires filled { self.old.filled ≤ 16384 }
+        requires filled { self.old.filled ≤ 4096 }
         requires sent { self.old.sent < 2 ^ 64 }
         requires countable { self.old.failed ≡ false → O.faults self.old.out.now < 2 ^ 64 - 1 }
         ensures same { self.new.out.ghost_name ≡ self.old.out.ghost_name }
-        ensures filled { self.new.filled ≤ 16384 }
+        ensures filled { self.new.filled ≤ 4096 }
         ensures sent { self.new.sent < 2 ^ 64 }
         ensures countable { self.new.failed ≡ false → O.faults self.new.out.now < 2 ^ 64 - 1 }
-        ensures room { self.new.failed ≡ false → self.new.filled < 16384 }
+        ensures room { self.new.failed ≡ false → self.new.filled < 4096 }
         ensures writes { Wrote (pen_state (O.written self.old.out.now) (O.room self.old.out.now) (O.longest self.old.out.now) (O.faults self.old.out.now) self.old.buffer self.old.filled self.old.sent self.old.failed) (pen_state (O.written self.new.out.now) (O.room self.new.out.now) (O.longest self.new.out.now) (O.faults self.new.out.now) self.new.buffer self.new.filled self.new.sent self.new.failed) [] }
     {
-        if self.filled == 16384 {
+        if self.filled == 4096 {
             self.flush();
         }
     }
 
     /// Writes one byte.
     fn write_byte(&mut self, byte: u8)
-        requires filled { self.old.filled ≤ 16384 }
+        requires filled { self.old.filled ≤ 4096 }
         requires sent { self.old.sent < 2 ^ 64 }
         requires countable { self.old.failed ≡ false → O.faults self.old.out.now < 2 ^ 64 - 1 }
         ensures same { self.new.out.ghost_name ≡ self.old.out.ghost_name }
-        ensures filled { self.new.filled ≤ 16384 }
+        ensures filled { self.new.filled ≤ 4096 }
         ensures sent { self.new.sent < 2 ^ 64 }
         ensures countable { self.new.failed ≡ false → O.faults self.new.out.now < 2 ^ 64 - 1 }
         ensures writes { Wrote (pen_state (O.written self.old.out.now) (O.room self.old.out.now) (O.longest self.old.out.now) (O.faults self.old.out.now) self.old.buffer self.old.filled self.old.sent self.old.failed) (pen_state (O.written self.new.out.now) (O.room self.new.out.now) (O.longest self.new.out.now) (O.faults self.new.out.now) self.new.buffer self.new.filled self.new.sent self.new.failed) (byte ∷ []) }
@@ -127,11 +127,11 @@ impl<'a, O: Sink> SinkPen<'a, O> {
     /// Writes a piece byte by byte.
     #[inline(never)]
     fn write_bytes(&mut self, piece: &[u8])
-        requires filled { self.old.filled ≤ 16384 }
+        requires filled { self.old.filled ≤ 4096 }
         requires sent { self.old.sent < 2 ^ 64 }
         requires countable { self.old.failed ≡ false → O.faults self.old.out.now < 2 ^ 64 - 1 }
         ensures same { self.new.out.ghost_name ≡ self.old.out.ghost_name }
-        ensures filled { self.new.filled ≤ 16384 }
+        ensures filled { self.new.filled ≤ 4096 }
         ensures sent { self.new.sent < 2 ^ 64 }
         ensures countable { self.new.failed ≡ false → O.faults self.new.out.now < 2 ^ 64 - 1 }
         ensures writes { Wrote (pen_state (O.written self.old.out.now) (O.room self.old.out.now) (O.longest self.old.out.now) (O.faults self.old.out.now) self.old.buffer self.old.filled self.old.sent self.old.failed) (pen_state (O.written self.new.out.now) (O.room self.new.out.now) (O.longest self.new.out.now) (O.faults self.new.out.now) self.new.buffer self.new.filled self.new.sent self.new.failed) piece.now }
@@ -144,12 +144,12 @@ impl<'a, O: Sink> SinkPen<'a, O> {
     /// Writes a piece for which there is room after the waiting bytes.
     #[inline]
     fn append(&mut self, piece: &[u8])
-        requires room { self.old.filled + length piece.now ≤ 16384 }
+        requires room { self.old.filled + length piece.now ≤ 4096 }
         requires sent { self.old.sent < 2 ^ 64 }
         requires countable { self.old.failed ≡ false → O.faults self.old.out.now < 2 ^ 64 - 1 }
         requires fine { self.old.failed ≡ false }
         ensures same { self.new.out.ghost_name ≡ self.old.out.ghost_name }
-        ensures filled { self.new.filled ≤ 16384 }
+        ensures filled { self.new.filled ≤ 4096 }
         ensures sent { self.new.sent < 2 ^ 64 }
         ensures countable { self.new.failed ≡ false → O.faults self.new.out.now < 2 ^ 64 - 1 }
         ensures writes { Wrote (pen_state (O.written self.old.out.now) (O.room self.old.out.now) (O.longest self.old.out.now) (O.faults self.old.out.now) self.old.buffer self.old.filled self.old.sent self.old.failed) (pen_state (O.written self.new.out.now) (O.room self.new.out.now) (O.longest self.new.out.now) (O.faults self.new.out.now) self.new.buffer self.new.filled self.new.sent self.new.failed) piece.now }
@@ -161,7 +161,7 @@ impl<'a, O: Sink> SinkPen<'a, O> {
 
     /// Puts the waiting bytes, and answers whether a put has failed, with the number of bytes that the sink has taken.
     pub fn finish(&mut self) -> Result<(), SinkFault>
-        requires filled { self.old.filled ≤ 16384 }
+        requires filled { self.old.filled ≤ 4096 }
         requires sent { self.old.sent < 2 ^ 64 }
         requires countable { self.old.failed ≡ false → O.faults self.old.out.now < 2 ^ 64 - 1 }
         ensures same { self.new.out.ghost_name ≡ self.old.out.ghost_name }
@@ -183,7 +183,7 @@ impl<'a, O: Sink> Pen for SinkPen<'a, O> {
     ghost use Rattle.pens.specs.Pens.{Wrote, pen_state};
     ghost use Rattle.pens.specs.PenLaws.{writes_nothing, writes_joined, writes_dropped};
 
-    ghost ready = { λ pen. (pen.filled ≤ 16384) × (pen.sent < 2 ^ 64) × (pen.failed ≡ false → O.faults pen.out.now < 2 ^ 64 - 1) };
+    ghost ready = { λ pen. (pen.filled ≤ 4096) × (pen.sent < 2 ^ 64) × (pen.failed ≡ false → O.faults pen.out.now < 2 ^ 64 - 1) };
 
     ghost writes = { λ old new bytes. (new.out.ghost_name ≡ old.out.ghost_name) × Wrote (pen_state (O.written old.out.now) (O.room old.out.now) (O.longest old.out.now) (O.faults old.out.now) old.buffer old.filled old.sent old.failed) (pen_state (O.written new.out.now) (O.room new.out.now) (O.longest new.out.now) (O.faults new.out.now) new.buffer new.filled new.sent new.failed) bytes };
 
@@ -201,7 +201,7 @@ impl<'a, O: Sink> Pen for SinkPen<'a, O> {
 
     #[inline]
     fn write(&mut self, piece: &[u8]) {
-        if piece.len() <= 16384 - self.filled && !self.failed {
+        if piece.len() <= 4096 - self.filled && !self.failed {
             self.append(piece);
         } else {
             self.write_bytes(piece);
