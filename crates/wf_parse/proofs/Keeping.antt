@@ -31,6 +31,17 @@ led_longer (leads.Chain op at) xs = omega (arith)
 led_longer (leads.Target op at) xs = omega (arith)
 led_longer (leads.ThisTarget op at) xs = omega (arith)
 
+-- Actions stand before a whole list where they stand before its front.
+pub led_before : (lead : Lead) (xs ys : List Want) → led_by lead (xs ++ ys) ≡ led_by lead xs ++ ys
+led_before leads.Empty xs ys = refl
+led_before (leads.One a) xs ys = refl
+led_before (leads.Places at) xs ys = refl
+led_before (leads.PlacedPath name) xs ys = refl
+led_before (leads.ThisPath at) xs ys = refl
+led_before (leads.Chain op at) xs ys = refl
+led_before (leads.Target op at) xs ys = refl
+led_before (leads.ThisTarget op at) xs ys = refl
+
 -- The actions before a list are performed first.
 led_made : (lead : Lead) (next : ℕ → List Want → Made → Ending) → MakesFirst next → (room : ℕ) (k : List Want) (made : Made) → next room (led_by lead k) made ≡ next room k (performed_by lead made)
 led_made leads.Empty next h room k made = refl

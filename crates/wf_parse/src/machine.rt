@@ -12,11 +12,11 @@ ghost use Rattle.wf_parse_grammar.specs.declared.builds.Build.TheVariants as bui
 ghost use Rattle.wf_parse_grammar.specs.Building.{open_wants, build, skipped};
 ghost use Rattle.wf_parse_grammar.specs.Machine.{may_end, opens};
 ghost use Rattle.wf_parse_grammar.specs.Values.{perform};
+ghost use Rattle.wf_parse_grammar.specs.Wanted.{led_by};
 ghost use Rattle.wf_parse_nodes.specs.Makers.{nodes, IsSound, KeepsTexts, made};
 ghost use Rattle.wf_parse.specs.Machines.{size, state_of, AnswersBuild, AnswersToken, AnswersEnd, KeepsAt, Wanted, want_owes};
 
 use stacks::Stack;
-use wf_ast::Op;
 use wf_ast::parsed::Name;
 use wf_parse_grammar::table::{build, may_end, opens, owes, skips};
 use wf_parse_grammar::{Action, Build, Kind, Lead, Sym, Token, Want, Wants};
@@ -299,197 +299,37 @@ impl Machine {
         }
     }
 
-    /// A token is taken that opens no bracket, and this is made of it.
-    fn take_made(
+    /// A token is taken: what `lead` says is made of it, and these things are wanted then.
+    fn want_led(&mut self, lead: Lead, wants: &[Want]) -> Result<bool, StepFault>
+        requires sound { IsSound self.old.maker }
+        requires few { length (led_by lead wants.now) ≤ 12 }
+        requires size { size self.old + 32 < 2 ^ 32 }
+        ensures ok { IfOk result (λ taken. taken ≡ true) }
+        ensures err { IfErr result (λ stop. stop ≡ Memory) }
+        ensures wanted { OnOk result (Wanted (led_by lead wants.now) (state_of self.old) (state_of self.new)) }
+        ensures room { self.new.room ≡ self.old.room }
+        ensures sound { OnOk result (IsSound self.new.maker) }
+        ensures texts { OnOk result (KeepsTexts self.old.maker.package self.new.maker.package) }
+        ensures size { OnOk result (size self.new ≤ size self.old + 32) }
+    {
+        self.wants.push_all(wants)?;
+        self.maker.perform_lead(lead)?;
+        Ok(true)
+    }
+
+    /// The same, where a bracket that is one too many is refused.
+    fn take_led(
         &mut self,
         limited: bool,
         symbol: Sym,
         token: Token,
-        action: Action,
+        lead: Lead,
+        wants: &[Want],
     ) -> Result<bool, StepFault>
         requires sound { IsSound self.old.maker }
+        requires few { length (led_by lead wants.now) ≤ 12 }
         requires size { size self.old + 32 < 2 ^ 32 }
-        requires closed { opens token.kind ≡ false }
-        ensures answers { AnswersBuild limited symbol token (builds.Take (Make action ∷ [])) (state_of self.old) (state_of self.new) result }
-        ensures ok { IfOk result (λ taken. taken ≡ true) }
-        ensures sound { OnOk result (IsSound self.new.maker) }
-        ensures texts { OnOk result (KeepsTexts self.old.maker.package self.new.maker.package) }
-        ensures refused { IfErr result (λ stop. KeepsAt stop self.old.maker.package self.new.maker.package) }
-        ensures size { OnOk result (size self.new ≤ size self.old + 32) }
-    {
-        self.make(action)?;
-        Ok(true)
-    }
-
-    /// The same, and `next` is wanted then.
-    fn take_before(
-        &mut self,
-        limited: bool,
-        symbol: Sym,
-        token: Token,
-        action: Action,
-        next: Sym,
-    ) -> Result<bool, StepFault>
-        requires sound { IsSound self.old.maker }
-        requires size { size self.old + 32 < 2 ^ 32 }
-        requires closed { opens token.kind ≡ false }
-        ensures answers { AnswersBuild limited symbol token (builds.Take (Make action ∷ Read next ∷ [])) (state_of self.old) (state_of self.new) result }
-        ensures ok { IfOk result (λ taken. taken ≡ true) }
-        ensures sound { OnOk result (IsSound self.new.maker) }
-        ensures texts { OnOk result (KeepsTexts self.old.maker.package self.new.maker.package) }
-        ensures refused { IfErr result (λ stop. KeepsAt stop self.old.maker.package self.new.maker.package) }
-        ensures size { OnOk result (size self.new ≤ size self.old + 32) }
-    {
-        self.make(action)?;
-        self.wants.push(Want::Read(next))?;
-        Ok(true)
-    }
-
-    /// The same, and `after` is wanted after `next`.
-    fn take_before_two(
-        &mut self,
-        limited: bool,
-        symbol: Sym,
-        token: Token,
-        action: Action,
-        next: Sym,
-        after: Sym,
-    ) -> Result<bool, StepFault>
-        requires sound { IsSound self.old.maker }
-        requires size { size self.old + 32 < 2 ^ 32 }
-        requires closed { opens token.kind ≡ false }
-        ensures answers { AnswersBuild limited symbol token (builds.Take (Make action ∷ Read next ∷ Read after ∷ [])) (state_of self.old) (state_of self.new) result }
-        ensures ok { IfOk result (λ taken. taken ≡ true) }
-        ensures sound { OnOk result (IsSound self.new.maker) }
-        ensures texts { OnOk result (KeepsTexts self.old.maker.package self.new.maker.package) }
-        ensures refused { IfErr result (λ stop. KeepsAt stop self.old.maker.package self.new.maker.package) }
-        ensures size { OnOk result (size self.new ≤ size self.old + 32) }
-    {
-        self.make(action)?;
-        self.wants.push(Want::Read(after))?;
-        self.wants.push(Want::Read(next))?;
-        Ok(true)
-    }
-
-    /// A token is taken that opens no bracket, and `next` is wanted then.
-    fn take_for(
-        &mut self,
-        limited: bool,
-        symbol: Sym,
-        token: Token,
-        next: Sym,
-    ) -> Result<bool, StepFault>
-        requires sound { IsSound self.old.maker }
-        requires size { size self.old + 32 < 2 ^ 32 }
-        requires closed { opens token.kind ≡ false }
-        ensures answers { AnswersBuild limited symbol token (builds.Take (Read next ∷ [])) (state_of self.old) (state_of self.new) result }
-        ensures ok { IfOk result (λ taken. taken ≡ true) }
-        ensures sound { OnOk result (IsSound self.new.maker) }
-        ensures texts { OnOk result (KeepsTexts self.old.maker.package self.new.maker.package) }
-        ensures refused { IfErr result (λ stop. KeepsAt stop self.old.maker.package self.new.maker.package) }
-        ensures size { OnOk result (size self.new ≤ size self.old + 32) }
-    {
-        self.wants.push(Want::Read(next))?;
-        Ok(true)
-    }
-
-    /// A `this` is taken that begins an operand.
-    fn take_this(&mut self, limited: bool, symbol: Sym, token: Token) -> Result<bool, StepFault>
-        requires sound { IsSound self.old.maker }
-        requires size { size self.old + 32 < 2 ^ 32 }
-        requires closed { opens token.kind ≡ false }
-        ensures answers { AnswersBuild limited symbol token (builds.Take (Make (does.PushPlace token.at) ∷ Read syms.ADot ∷ Read syms.AName ∷ Read syms.ThisAtom ∷ [])) (state_of self.old) (state_of self.new) result }
-        ensures ok { IfOk result (λ taken. taken ≡ true) }
-        ensures sound { OnOk result (IsSound self.new.maker) }
-        ensures texts { OnOk result (KeepsTexts self.old.maker.package self.new.maker.package) }
-        ensures refused { IfErr result (λ stop. KeepsAt stop self.old.maker.package self.new.maker.package) }
-        ensures size { OnOk result (size self.new ≤ size self.old + 32) }
-    {
-        self.make(Action::PushPlace(token.at))?;
-        self.wants.push(Want::Read(Sym::ThisAtom))?;
-        self.wants.push(Want::Read(Sym::AName))?;
-        self.wants.push(Want::Read(Sym::ADot))?;
-        Ok(true)
-    }
-
-    /// The same, and `after` is wanted after the operand.
-    fn take_this_before(
-        &mut self,
-        limited: bool,
-        symbol: Sym,
-        token: Token,
-        after: Sym,
-    ) -> Result<bool, StepFault>
-        requires sound { IsSound self.old.maker }
-        requires size { size self.old + 32 < 2 ^ 32 }
-        requires closed { opens token.kind ≡ false }
-        ensures answers { AnswersBuild limited symbol token (builds.Take (Make (does.PushPlace token.at) ∷ Read syms.ADot ∷ Read syms.AName ∷ Read syms.ThisAtom ∷ Read after ∷ [])) (state_of self.old) (state_of self.new) result }
-        ensures ok { IfOk result (λ taken. taken ≡ true) }
-        ensures sound { OnOk result (IsSound self.new.maker) }
-        ensures texts { OnOk result (KeepsTexts self.old.maker.package self.new.maker.package) }
-        ensures refused { IfErr result (λ stop. KeepsAt stop self.old.maker.package self.new.maker.package) }
-        ensures size { OnOk result (size self.new ≤ size self.old + 32) }
-    {
-        self.make(Action::PushPlace(token.at))?;
-        self.wants.push(Want::Read(after))?;
-        self.wants.push(Want::Read(Sym::ThisAtom))?;
-        self.wants.push(Want::Read(Sym::AName))?;
-        self.wants.push(Want::Read(Sym::ADot))?;
-        Ok(true)
-    }
-
-    /// An `args` is taken that begins an operand.
-    fn take_args(&mut self, limited: bool, symbol: Sym, token: Token) -> Result<bool, StepFault>
-        requires sound { IsSound self.old.maker }
-        requires size { size self.old + 32 < 2 ^ 32 }
-        requires closed { opens token.kind ≡ false }
-        ensures answers { AnswersBuild limited symbol token (builds.Take (Make (does.PushPlace token.at) ∷ Read syms.ADot ∷ Read syms.AName ∷ Make does.ArgsPath ∷ Read syms.PathAtom ∷ [])) (state_of self.old) (state_of self.new) result }
-        ensures ok { IfOk result (λ taken. taken ≡ true) }
-        ensures sound { OnOk result (IsSound self.new.maker) }
-        ensures texts { OnOk result (KeepsTexts self.old.maker.package self.new.maker.package) }
-        ensures refused { IfErr result (λ stop. KeepsAt stop self.old.maker.package self.new.maker.package) }
-        ensures size { OnOk result (size self.new ≤ size self.old + 32) }
-    {
-        self.make(Action::PushPlace(token.at))?;
-        self.wants.push(Want::Read(Sym::PathAtom))?;
-        self.wants.push(Want::Make(Action::ArgsPath))?;
-        self.wants.push(Want::Read(Sym::AName))?;
-        self.wants.push(Want::Read(Sym::ADot))?;
-        Ok(true)
-    }
-
-    /// The same, and `after` is wanted after the operand.
-    fn take_args_before(
-        &mut self,
-        limited: bool,
-        symbol: Sym,
-        token: Token,
-        after: Sym,
-    ) -> Result<bool, StepFault>
-        requires sound { IsSound self.old.maker }
-        requires size { size self.old + 32 < 2 ^ 32 }
-        requires closed { opens token.kind ≡ false }
-        ensures answers { AnswersBuild limited symbol token (builds.Take (Make (does.PushPlace token.at) ∷ Read syms.ADot ∷ Read syms.AName ∷ Make does.ArgsPath ∷ Read syms.PathAtom ∷ Read after ∷ [])) (state_of self.old) (state_of self.new) result }
-        ensures ok { IfOk result (λ taken. taken ≡ true) }
-        ensures sound { OnOk result (IsSound self.new.maker) }
-        ensures texts { OnOk result (KeepsTexts self.old.maker.package self.new.maker.package) }
-        ensures refused { IfErr result (λ stop. KeepsAt stop self.old.maker.package self.new.maker.package) }
-        ensures size { OnOk result (size self.new ≤ size self.old + 32) }
-    {
-        self.make(Action::PushPlace(token.at))?;
-        self.wants.push(Want::Read(after))?;
-        self.wants.push(Want::Read(Sym::PathAtom))?;
-        self.wants.push(Want::Make(Action::ArgsPath))?;
-        self.wants.push(Want::Read(Sym::AName))?;
-        self.wants.push(Want::Read(Sym::ADot))?;
-        Ok(true)
-    }
-
-    /// A `(` is taken that begins an operand.
-    fn take_round(&mut self, limited: bool, symbol: Sym, token: Token) -> Result<bool, StepFault>
-        requires sound { IsSound self.old.maker }
-        requires size { size self.old + 32 < 2 ^ 32 }
-        ensures answers { AnswersBuild limited symbol token (builds.Take (Read syms.Expr ∷ Read syms.RightRound ∷ [])) (state_of self.old) (state_of self.new) result }
+        ensures answers { AnswersBuild limited symbol token (builds.Take (led_by lead wants.now)) (state_of self.old) (state_of self.new) result }
         ensures ok { IfOk result (λ taken. taken ≡ true) }
         ensures sound { OnOk result (IsSound self.new.maker) }
         ensures texts { OnOk result (KeepsTexts self.old.maker.package self.new.maker.package) }
@@ -499,74 +339,7 @@ impl Machine {
         if limited && opens(token.kind) && self.is_deep(symbol) {
             return Err(StepFault::Refused(Rule::L4));
         }
-        self.wants.push(Want::Read(Sym::RightRound))?;
-        self.wants.push(Want::Read(Sym::Expr))?;
-        Ok(true)
-    }
-
-    /// The same, and `after` is wanted after the operand.
-    fn take_round_before(
-        &mut self,
-        limited: bool,
-        symbol: Sym,
-        token: Token,
-        after: Sym,
-    ) -> Result<bool, StepFault>
-        requires sound { IsSound self.old.maker }
-        requires size { size self.old + 32 < 2 ^ 32 }
-        ensures answers { AnswersBuild limited symbol token (builds.Take (Read syms.Expr ∷ Read syms.RightRound ∷ Read after ∷ [])) (state_of self.old) (state_of self.new) result }
-        ensures ok { IfOk result (λ taken. taken ≡ true) }
-        ensures sound { OnOk result (IsSound self.new.maker) }
-        ensures texts { OnOk result (KeepsTexts self.old.maker.package self.new.maker.package) }
-        ensures refused { IfErr result (λ stop. KeepsAt stop self.old.maker.package self.new.maker.package) }
-        ensures size { OnOk result (size self.new ≤ size self.old + 32) }
-    {
-        if limited && opens(token.kind) && self.is_deep(symbol) {
-            return Err(StepFault::Refused(Rule::L4));
-        }
-        self.wants.push(Want::Read(after))?;
-        self.wants.push(Want::Read(Sym::RightRound))?;
-        self.wants.push(Want::Read(Sym::Expr))?;
-        Ok(true)
-    }
-
-    /// An operator is taken that stands between two operands.
-    fn take_binary(&mut self, limited: bool, token: Token, op: Op) -> Result<bool, StepFault>
-        requires sound { IsSound self.old.maker }
-        requires size { size self.old + 32 < 2 ^ 32 }
-        requires closed { opens token.kind ≡ false }
-        ensures answers { AnswersBuild limited syms.Rest token (builds.Take (Make (does.StartChain op token.at) ∷ Make (does.PushPlace token.at) ∷ Read syms.Operand ∷ Make does.AddLink ∷ Make does.FinishChain ∷ Read syms.End ∷ [])) (state_of self.old) (state_of self.new) result }
-        ensures ok { IfOk result (λ taken. taken ≡ true) }
-        ensures sound { OnOk result (IsSound self.new.maker) }
-        ensures texts { OnOk result (KeepsTexts self.old.maker.package self.new.maker.package) }
-        ensures refused { IfErr result (λ stop. KeepsAt stop self.old.maker.package self.new.maker.package) }
-        ensures size { OnOk result (size self.new ≤ size self.old + 32) }
-    {
-        self.maker.perform_lead(Lead::Chain { op, at: token.at })?;
-        self.wants.push(Want::Read(Sym::End))?;
-        self.wants.push(Want::Make(Action::FinishChain))?;
-        self.wants.push(Want::Make(Action::AddLink))?;
-        self.wants.push(Want::Read(Sym::Operand))?;
-        Ok(true)
-    }
-
-    /// An operator is taken that makes a chain.
-    fn take_chain(&mut self, limited: bool, token: Token, op: Op) -> Result<bool, StepFault>
-        requires sound { IsSound self.old.maker }
-        requires size { size self.old + 32 < 2 ^ 32 }
-        requires closed { opens token.kind ≡ false }
-        ensures answers { AnswersBuild limited syms.Rest token (builds.Take (Make (does.StartChain op token.at) ∷ Make (does.PushPlace token.at) ∷ Read syms.Operand ∷ Make does.AddLink ∷ Read (syms.Links op) ∷ [])) (state_of self.old) (state_of self.new) result }
-        ensures ok { IfOk result (λ taken. taken ≡ true) }
-        ensures sound { OnOk result (IsSound self.new.maker) }
-        ensures texts { OnOk result (KeepsTexts self.old.maker.package self.new.maker.package) }
-        ensures refused { IfErr result (λ stop. KeepsAt stop self.old.maker.package self.new.maker.package) }
-        ensures size { OnOk result (size self.new ≤ size self.old + 32) }
-    {
-        self.maker.perform_lead(Lead::Chain { op, at: token.at })?;
-        self.wants.push(Want::Read(Sym::Links(op)))?;
-        self.wants.push(Want::Make(Action::AddLink))?;
-        self.wants.push(Want::Read(Sym::Operand))?;
-        Ok(true)
+        self.want_led(lead, wants)
     }
 
     /// A name, where one is wanted.
@@ -581,12 +354,16 @@ impl Machine {
         ensures size { IfOk result (λ taken. size self.new ≤ size self.old + (if taken then 32 else 2)) }
     {
         match token.kind {
-            Kind::Name(text) => self.take_made(
-                limited,
-                Sym::AName,
-                token,
-                Action::PushName(Name { text, at: token.at }),
-            ),
+            Kind::Name(text) => {
+                let name = Name { text, at: token.at };
+                self.take_led(
+                    limited,
+                    Sym::AName,
+                    token,
+                    Lead::One(Action::PushName(name)),
+                    &[],
+                )
+            }
             _ => Err(StepFault::Refused(Rule::S5)),
         }
     }
@@ -602,26 +379,52 @@ impl Machine {
         ensures below { IfOk result (λ taken. taken ≡ false → self.new.wants ≡ self.old.wants) }
         ensures size { IfOk result (λ taken. size self.new ≤ size self.old + (if taken then 32 else 2)) }
     {
+        let at = token.at;
         match token.kind {
-            Kind::Number(value) => self.take_made(
+            Kind::Number(value) => self.take_led(
                 limited,
                 Sym::Operand,
                 token,
-                Action::NumberExpr {
-                    value,
-                    at: token.at,
-                },
+                Lead::One(Action::NumberExpr { value, at }),
+                &[],
             ),
-            Kind::Name(text) => self.take_before(
+            Kind::Name(text) => self.take_led(
                 limited,
                 Sym::Operand,
                 token,
-                Action::BarePath(Name { text, at: token.at }),
-                Sym::PathAtom,
+                Lead::One(Action::BarePath(Name { text, at })),
+                &[Want::Read(Sym::PathAtom)],
             ),
-            Kind::OpenRound => self.take_round(limited, Sym::Operand, token),
-            Kind::This => self.take_this(limited, Sym::Operand, token),
-            Kind::Args => self.take_args(limited, Sym::Operand, token),
+            Kind::OpenRound => self.take_led(
+                limited,
+                Sym::Operand,
+                token,
+                Lead::Empty,
+                &[Want::Read(Sym::Expr), Want::Read(Sym::RightRound)],
+            ),
+            Kind::This => self.take_led(
+                limited,
+                Sym::Operand,
+                token,
+                Lead::One(Action::PushPlace(at)),
+                &[
+                    Want::Read(Sym::ADot),
+                    Want::Read(Sym::AName),
+                    Want::Read(Sym::ThisAtom),
+                ],
+            ),
+            Kind::Args => self.take_led(
+                limited,
+                Sym::Operand,
+                token,
+                Lead::One(Action::PushPlace(at)),
+                &[
+                    Want::Read(Sym::ADot),
+                    Want::Read(Sym::AName),
+                    Want::Make(Action::ArgsPath),
+                    Want::Read(Sym::PathAtom),
+                ],
+            ),
             _ => self.read_list(limited, Sym::Operand, token),
         }
     }
@@ -637,28 +440,58 @@ impl Machine {
         ensures below { IfOk result (λ taken. taken ≡ false → self.new.wants ≡ self.old.wants) }
         ensures size { IfOk result (λ taken. size self.new ≤ size self.old + (if taken then 32 else 2)) }
     {
+        let at = token.at;
         match token.kind {
-            Kind::Number(value) => self.take_before(
+            Kind::Number(value) => self.take_led(
                 limited,
                 Sym::Expr,
                 token,
-                Action::NumberExpr {
-                    value,
-                    at: token.at,
-                },
-                Sym::Rest,
+                Lead::One(Action::NumberExpr { value, at }),
+                &[Want::Read(Sym::Rest)],
             ),
-            Kind::Name(text) => self.take_before_two(
+            Kind::Name(text) => self.take_led(
                 limited,
                 Sym::Expr,
                 token,
-                Action::BarePath(Name { text, at: token.at }),
-                Sym::PathAtom,
-                Sym::Rest,
+                Lead::One(Action::BarePath(Name { text, at })),
+                &[Want::Read(Sym::PathAtom), Want::Read(Sym::Rest)],
             ),
-            Kind::OpenRound => self.take_round_before(limited, Sym::Expr, token, Sym::Rest),
-            Kind::This => self.take_this_before(limited, Sym::Expr, token, Sym::Rest),
-            Kind::Args => self.take_args_before(limited, Sym::Expr, token, Sym::Rest),
+            Kind::OpenRound => self.take_led(
+                limited,
+                Sym::Expr,
+                token,
+                Lead::Empty,
+                &[
+                    Want::Read(Sym::Expr),
+                    Want::Read(Sym::RightRound),
+                    Want::Read(Sym::Rest),
+                ],
+            ),
+            Kind::This => self.take_led(
+                limited,
+                Sym::Expr,
+                token,
+                Lead::One(Action::PushPlace(at)),
+                &[
+                    Want::Read(Sym::ADot),
+                    Want::Read(Sym::AName),
+                    Want::Read(Sym::ThisAtom),
+                    Want::Read(Sym::Rest),
+                ],
+            ),
+            Kind::Args => self.take_led(
+                limited,
+                Sym::Expr,
+                token,
+                Lead::One(Action::PushPlace(at)),
+                &[
+                    Want::Read(Sym::ADot),
+                    Want::Read(Sym::AName),
+                    Want::Make(Action::ArgsPath),
+                    Want::Read(Sym::PathAtom),
+                    Want::Read(Sym::Rest),
+                ],
+            ),
             _ => self.read_list(limited, Sym::Expr, token),
         }
     }
@@ -675,8 +508,29 @@ impl Machine {
         ensures size { IfOk result (λ taken. size self.new ≤ size self.old + (if taken then 32 else 2)) }
     {
         match token.kind {
-            Kind::Binary(op) => self.take_binary(limited, token, op),
-            Kind::Chain(op) => self.take_chain(limited, token, op),
+            Kind::Binary(op) => self.take_led(
+                limited,
+                Sym::Rest,
+                token,
+                Lead::Chain { op, at: token.at },
+                &[
+                    Want::Read(Sym::Operand),
+                    Want::Make(Action::AddLink),
+                    Want::Make(Action::FinishChain),
+                    Want::Read(Sym::End),
+                ],
+            ),
+            Kind::Chain(op) => self.take_led(
+                limited,
+                Sym::Rest,
+                token,
+                Lead::Chain { op, at: token.at },
+                &[
+                    Want::Read(Sym::Operand),
+                    Want::Make(Action::AddLink),
+                    Want::Read(Sym::Links(op)),
+                ],
+            ),
             _ => self.read_symbol(limited, Sym::Rest, token),
         }
     }
@@ -694,7 +548,8 @@ impl Machine {
     {
         match token.kind {
             Kind::CloseCurly => {
-                self.take_made(limited, Sym::Items, token, Action::CloseBlock(token.at))
+                let end = Action::CloseBlock(token.at);
+                self.take_led(limited, Sym::Items, token, Lead::One(end), &[])
             }
             _ => self.read_list(limited, Sym::Items, token),
         }
@@ -712,9 +567,13 @@ impl Machine {
         ensures size { IfOk result (λ taken. size self.new ≤ size self.old + (if taken then 32 else 2)) }
     {
         match token.kind {
-            Kind::Semicolon => self.take_for(limited, Sym::MoreItems, token, Sym::Items),
+            Kind::Semicolon => {
+                let next = [Want::Read(Sym::Items)];
+                self.take_led(limited, Sym::MoreItems, token, Lead::Empty, &next)
+            }
             Kind::CloseCurly => {
-                self.take_made(limited, Sym::MoreItems, token, Action::CloseBlock(token.at))
+                let end = Action::CloseBlock(token.at);
+                self.take_led(limited, Sym::MoreItems, token, Lead::One(end), &[])
             }
             _ => Err(StepFault::Refused(Rule::S5)),
         }

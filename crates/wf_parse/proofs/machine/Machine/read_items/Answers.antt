@@ -11,5 +11,5 @@ use Rattle.wf_parse.proofs.machine.Machine.read_items.Goals as goal
 pub returns-in-CloseCurly-clause-answers : goal.returns-in-CloseCurly-clause-answers
 returns-in-CloseCurly-clause-answers c =
     let is : build syms.Items c.args.token.kind c.args.token.at ≡ builds.Take (Make (does.CloseBlock c.args.token.at) ∷ []) = ap (λ kind. build syms.Items kind c.args.token.at) c.in-CloseCurly.is in
-    let P : Build → Type 0 = λ b. AnswersBuild c.args.limited syms.Items c.args.token b (state_of c.args.self.now) (state_of c.take_made.new.self) c.take_made.result in
-    subst P (sym is) c.take_made.ensures.answers
+    let P : Build → Type 0 = λ b. AnswersBuild c.args.limited syms.Items c.args.token b (state_of c.args.self.now) (state_of c.take_led.new.self) c.take_led.result in
+    subst P (sym is) c.take_led.ensures.answers

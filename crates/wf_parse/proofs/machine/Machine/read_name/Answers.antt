@@ -11,5 +11,5 @@ use Rattle.wf_parse.proofs.machine.Machine.read_name.Goals as goal
 pub returns-in-Name-clause-answers : goal.returns-in-Name-clause-answers
 returns-in-Name-clause-answers c =
     let is : build syms.AName c.args.token.kind c.args.token.at ≡ builds.Take (Make (does.PushName (record { text = c.in-Name.text; at = c.args.token.at })) ∷ []) = ap (λ kind. build syms.AName kind c.args.token.at) c.in-Name.is in
-    let P : Build → Type 0 = λ b. AnswersBuild c.args.limited syms.AName c.args.token b (state_of c.args.self.now) (state_of c.take_made.new.self) c.take_made.result in
-    subst P (sym is) c.take_made.ensures.answers
+    let P : Build → Type 0 = λ b. AnswersBuild c.args.limited syms.AName c.args.token b (state_of c.args.self.now) (state_of c.take_led.new.self) c.take_led.result in
+    subst P (sym is) c.take_led.ensures.answers

@@ -11,29 +11,29 @@ use Rattle.wf_parse.proofs.machine.Machine.read_operand.Goals as goal
 pub returns-in-Number-clause-answers : goal.returns-in-Number-clause-answers
 returns-in-Number-clause-answers c =
     let is : build syms.Operand c.args.token.kind c.args.token.at ≡ builds.Take (Make (does.NumberExpr c.in-Number.value c.args.token.at) ∷ []) = ap (λ kind. build syms.Operand kind c.args.token.at) c.in-Number.is in
-    let P : Build → Type 0 = λ b. AnswersBuild c.args.limited syms.Operand c.args.token b (state_of c.args.self.now) (state_of c.take_made.new.self) c.take_made.result in
-    subst P (sym is) c.take_made.ensures.answers
+    let P : Build → Type 0 = λ b. AnswersBuild c.args.limited syms.Operand c.args.token b (state_of c.args.self.now) (state_of c.take_led.new.self) c.take_led.result in
+    subst P (sym is) c.take_led.ensures.answers
 
 pub returns-in-Name-clause-answers : goal.returns-in-Name-clause-answers
 returns-in-Name-clause-answers c =
     let is : build syms.Operand c.args.token.kind c.args.token.at ≡ builds.Take (Make (does.BarePath (record { text = c.in-Name.text; at = c.args.token.at })) ∷ Read syms.PathAtom ∷ []) = ap (λ kind. build syms.Operand kind c.args.token.at) c.in-Name.is in
-    let P : Build → Type 0 = λ b. AnswersBuild c.args.limited syms.Operand c.args.token b (state_of c.args.self.now) (state_of c.take_before.new.self) c.take_before.result in
-    subst P (sym is) c.take_before.ensures.answers
+    let P : Build → Type 0 = λ b. AnswersBuild c.args.limited syms.Operand c.args.token b (state_of c.args.self.now) (state_of c.take_led.new.self) c.take_led.result in
+    subst P (sym is) c.take_led.ensures.answers
 
 pub returns-in-OpenRound-clause-answers : goal.returns-in-OpenRound-clause-answers
 returns-in-OpenRound-clause-answers c =
     let is : build syms.Operand c.args.token.kind c.args.token.at ≡ builds.Take (Read syms.Expr ∷ Read syms.RightRound ∷ []) = ap (λ kind. build syms.Operand kind c.args.token.at) c.in-OpenRound.is in
-    let P : Build → Type 0 = λ b. AnswersBuild c.args.limited syms.Operand c.args.token b (state_of c.args.self.now) (state_of c.take_round.new.self) c.take_round.result in
-    subst P (sym is) c.take_round.ensures.answers
+    let P : Build → Type 0 = λ b. AnswersBuild c.args.limited syms.Operand c.args.token b (state_of c.args.self.now) (state_of c.take_led.new.self) c.take_led.result in
+    subst P (sym is) c.take_led.ensures.answers
 
 pub returns-in-This-clause-answers : goal.returns-in-This-clause-answers
 returns-in-This-clause-answers c =
     let is : build syms.Operand c.args.token.kind c.args.token.at ≡ builds.Take (Make (does.PushPlace c.args.token.at) ∷ Read syms.ADot ∷ Read syms.AName ∷ Read syms.ThisAtom ∷ []) = ap (λ kind. build syms.Operand kind c.args.token.at) c.in-This.is in
-    let P : Build → Type 0 = λ b. AnswersBuild c.args.limited syms.Operand c.args.token b (state_of c.args.self.now) (state_of c.take_this.new.self) c.take_this.result in
-    subst P (sym is) c.take_this.ensures.answers
+    let P : Build → Type 0 = λ b. AnswersBuild c.args.limited syms.Operand c.args.token b (state_of c.args.self.now) (state_of c.take_led.new.self) c.take_led.result in
+    subst P (sym is) c.take_led.ensures.answers
 
 pub returns-in-Args-clause-answers : goal.returns-in-Args-clause-answers
 returns-in-Args-clause-answers c =
     let is : build syms.Operand c.args.token.kind c.args.token.at ≡ builds.Take (Make (does.PushPlace c.args.token.at) ∷ Read syms.ADot ∷ Read syms.AName ∷ Make does.ArgsPath ∷ Read syms.PathAtom ∷ []) = ap (λ kind. build syms.Operand kind c.args.token.at) c.in-Args.is in
-    let P : Build → Type 0 = λ b. AnswersBuild c.args.limited syms.Operand c.args.token b (state_of c.args.self.now) (state_of c.take_args.new.self) c.take_args.result in
-    subst P (sym is) c.take_args.ensures.answers
+    let P : Build → Type 0 = λ b. AnswersBuild c.args.limited syms.Operand c.args.token b (state_of c.args.self.now) (state_of c.take_led.new.self) c.take_led.result in
+    subst P (sym is) c.take_led.ensures.answers
