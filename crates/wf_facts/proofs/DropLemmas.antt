@@ -11,7 +11,7 @@ use Rattle.wf_ast.specs.declared.typed_nodes.TypedNodes.{TypedNodes}
 use Rattle.wf_facts_exprs.specs.declared.facts.Fact.{Fact}
 use Rattle.wf_facts_exprs.specs.Claims.{claim_in, claims_in, claim_mentions, is_fact, AreFacts}
 use Rattle.wf_facts.specs.declared.sets.FactSet.{FactSet}
-use Rattle.wf_facts.specs.Sets.{member, members, IsSetOf, unmarked}
+use Rattle.wf_facts.specs.Sets.{member, members, marked, IsSetOf, unmarked}
 use Rattle.wf_facts.specs.FactLists.{without}
 use Rattle.wf_facts.specs.IndexedFacts.{FactList, IsOver, has_set, set_number, set_of, mentioning, words_at}
 use Rattle.wf_facts.proofs.SetLemmas.{length-members, unmarked-push, unmarked_none, unmarked_one, members_known, IsSetOf-put, all_stay, stays_before, empty_set, none_in_zeros}
@@ -275,6 +275,11 @@ pub mentioning-more : (nodes : TypedNodes) (x : Thing) (fs : List Fact) (i : ℕ
     → mentioning nodes x (take (i + 1) fs) ≡ mentioning nodes x (take i fs) ++ claim_mentions x (claim_in nodes (get_or fs i d)) ∷ []
 mentioning-more nodes x fs i d h =
     ap (mentioning nodes x) (take_more fs i d h) ∙ map-append (λ f. claim_mentions x (claim_in nodes f)) (take i fs) (get_or fs i d ∷ [])
+
+pub marked-mentioning : (nodes : TypedNodes) (x : Thing) (fs : List Fact) (i : ℕ) (d : Fact) → i < length fs → marked (mentioning nodes x fs) i ≡ claim_mentions x (claim_in nodes (get_or fs i d))
+marked-mentioning nodes x [] i d h = absurd (omega (arith, h))
+marked-mentioning nodes x (f ∷ fs) zero d h = refl
+marked-mentioning nodes x (f ∷ fs) (suc i) d h = marked-mentioning nodes x fs i d (omega (arith, h))
 
 pub meant-more : (nodes : TypedNodes) (x : Thing) (fs : List Fact) (i : ℕ) (d : Fact) → i < length fs → (words written : List ℕ) → IsSetOf words (mentioning nodes x (take i fs))
     → (b : Bool) → b ≡ claim_mentions x (claim_in nodes (get_or fs i d)) → ((k : ℕ) → k < 512 → member written k ≡ ((nat_eq k i && b) || member words k))

@@ -1,4 +1,5 @@
 pub mod AddLemmas
+pub mod AroundLemmas
 pub mod ChangeLemmas
 pub mod CommonLaws
 pub mod ConditionLemmas

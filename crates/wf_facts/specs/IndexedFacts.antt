@@ -19,6 +19,12 @@ has_set (things.Field x) = false
 has_set (things.Arg x) = false
 has_set x = true
 
+-- What a field or an argument is one of: whatever mentions it mentions that too.
+abbrev pub thing_around : Thing → Thing
+thing_around (things.Field x) = things.This
+thing_around (things.Arg x) = things.Args
+thing_around x = x
+
 -- A field, an argument, or a thing with a set.
 abbrev pub IsNamedInSets : Thing → Type 0
 IsNamedInSets (things.Local x) = x.0 < 256

@@ -2,9 +2,9 @@
 
 ghost use Rattle.std.specs.Prelude.{◌≡◌, ◌≤◌, ◌<◌, ℕ, Bool, List, length, take, true, false};
 ghost use Rattle.wf_ast.specs.declared.typed_nodes.TypedNodes.{TypedNodes};
-ghost use Rattle.wf_facts_exprs.specs.Claims.{claims_in};
+ghost use Rattle.wf_facts_exprs.specs.Claims.{claim_in, claims_in, claim_mentions, is_fact, AreFacts};
 ghost use Rattle.wf_facts.specs.FactLists.{without};
-ghost use Rattle.wf_facts.specs.IndexedFacts.{IsOver, IsNamedInSets, has_set as thing_has_set, set_of, mentioning, words_at};
+ghost use Rattle.wf_facts.specs.IndexedFacts.{IsOver, IsNamedInSets, has_set as thing_has_set, thing_around, set_of, mentioning, words_at};
 ghost use Rattle.wf_facts.specs.Sets.{member, members, IsSetOf, unmarked};
 
 use crate::list::{Facts, has_set, set_number};
@@ -46,12 +46,8 @@ impl Facts {
         if has_set(x) {
             return *self.sets.at(set_number(x));
         }
-        let list = self.list.as_slice();
-        let mut meant = FactSet::new();
-        for i in 0..list.len() {
-            meant.put(i, fact_mentions(t, list[i], x));
-        }
-        meant
+        let around = self.sets.at(set_number(around(x)));
+        meant_of(t, self.list.as_slice(), around, x)
     }
 
     // Drops the facts of a set, and moves all sets with them.
@@ -68,6 +64,43 @@ impl Facts {
         let stay = close_up(self.list.as_mut_slice(), dropped, first);
         self.list.truncate(stay);
         self.sets.move_places(dropped, first, n);
+    }
+}
+
+// The set of the facts of a list that mention a field or an argument. Only the trees of those are looked at that mention
+// what it is one of.
+fn meant_of(t: &Typed, list: &[Fact], around: &FactSet, x: Thing) -> FactSet
+    requires part { thing_has_set x ≡ false }
+    requires few { length list.now ≤ 512 }
+    requires facts { AreFacts t.now list.now }
+    requires around { IsSetOf around.now.words (mentioning t.now (thing_around x) list.now) }
+    ensures { IsSetOf result.words (mentioning t.now x list.now) }
+{
+    let mut meant = FactSet::new();
+    for i in 0..list.len() {
+        meant.put(i, mentions_part(t, list[i], x, around.has(i)));
+    }
+    meant
+}
+
+// Whether a fact mentions a field or an argument, where it is known whether it mentions what this is one of.
+fn mentions_part(t: &Typed, f: Fact, x: Thing, mentions_around: bool) -> bool
+    requires fact { is_fact t.now f ≡ true }
+    requires part { thing_has_set x ≡ false }
+    requires around { mentions_around ≡ claim_mentions (thing_around x) (claim_in t.now f) }
+    ensures { result ≡ claim_mentions x (claim_in t.now f) }
+{
+    mentions_around && fact_mentions(t, f, x)
+}
+
+// What a field or an argument is one of.
+fn around(x: Thing) -> Thing
+    ensures { result ≡ thing_around x }
+{
+    match x {
+        Thing::Field(_) => Thing::This,
+        Thing::Arg(_) => Thing::Args,
+        Thing::Local(_) | Thing::This | Thing::Args | Thing::Element | Thing::SliceLocals => x,
     }
 }
 
