@@ -17,5 +17,5 @@ returns-in-Semicolon-clause-answers c =
 pub returns-in-CloseCurly-clause-answers : goal.returns-in-CloseCurly-clause-answers
 returns-in-CloseCurly-clause-answers c =
     let is : build syms.MoreItems c.args.token.kind c.args.token.at ≡ builds.Take (Make (does.CloseBlock c.args.token.at) ∷ []) = ap (λ kind. build syms.MoreItems kind c.args.token.at) c.in-CloseCurly.is in
-    let P : Build → Type 0 = λ b. AnswersBuild c.args.limited syms.MoreItems c.args.token b (state_of c.args.self.now) (state_of c.take_led.new.self) c.take_led.result in
-    subst P (sym is) c.take_led.ensures.answers
+    let P : Build → Type 0 = λ b. AnswersBuild c.args.limited syms.MoreItems c.args.token b (state_of c.args.self.now) (state_of c.take_led-in-CloseCurly.new.self) c.take_led-in-CloseCurly.result in
+    subst P (sym is) c.take_led-in-CloseCurly.ensures.answers

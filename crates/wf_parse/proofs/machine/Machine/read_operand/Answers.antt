@@ -17,23 +17,23 @@ returns-in-Number-clause-answers c =
 pub returns-in-Name-clause-answers : goal.returns-in-Name-clause-answers
 returns-in-Name-clause-answers c =
     let is : build syms.Operand c.args.token.kind c.args.token.at ≡ builds.Take (Make (does.BarePath (record { text = c.in-Name.text; at = c.args.token.at })) ∷ Read syms.PathAtom ∷ []) = ap (λ kind. build syms.Operand kind c.args.token.at) c.in-Name.is in
-    let P : Build → Type 0 = λ b. AnswersBuild c.args.limited syms.Operand c.args.token b (state_of c.args.self.now) (state_of c.take_led.new.self) c.take_led.result in
-    subst P (sym is) c.take_led.ensures.answers
+    let P : Build → Type 0 = λ b. AnswersBuild c.args.limited syms.Operand c.args.token b (state_of c.args.self.now) (state_of c.take_led-in-Name.new.self) c.take_led-in-Name.result in
+    subst P (sym is) c.take_led-in-Name.ensures.answers
 
 pub returns-in-OpenRound-clause-answers : goal.returns-in-OpenRound-clause-answers
 returns-in-OpenRound-clause-answers c =
     let is : build syms.Operand c.args.token.kind c.args.token.at ≡ builds.Take (Read syms.Expr ∷ Read syms.RightRound ∷ []) = ap (λ kind. build syms.Operand kind c.args.token.at) c.in-OpenRound.is in
-    let P : Build → Type 0 = λ b. AnswersBuild c.args.limited syms.Operand c.args.token b (state_of c.args.self.now) (state_of c.take_led.new.self) c.take_led.result in
-    subst P (sym is) c.take_led.ensures.answers
+    let P : Build → Type 0 = λ b. AnswersBuild c.args.limited syms.Operand c.args.token b (state_of c.args.self.now) (state_of c.take_led-in-OpenRound.new.self) c.take_led-in-OpenRound.result in
+    subst P (sym is) c.take_led-in-OpenRound.ensures.answers
 
 pub returns-in-This-clause-answers : goal.returns-in-This-clause-answers
 returns-in-This-clause-answers c =
     let is : build syms.Operand c.args.token.kind c.args.token.at ≡ builds.Take (Make (does.PushPlace c.args.token.at) ∷ Read syms.ADot ∷ Read syms.AName ∷ Read syms.ThisAtom ∷ []) = ap (λ kind. build syms.Operand kind c.args.token.at) c.in-This.is in
-    let P : Build → Type 0 = λ b. AnswersBuild c.args.limited syms.Operand c.args.token b (state_of c.args.self.now) (state_of c.take_led.new.self) c.take_led.result in
-    subst P (sym is) c.take_led.ensures.answers
+    let P : Build → Type 0 = λ b. AnswersBuild c.args.limited syms.Operand c.args.token b (state_of c.args.self.now) (state_of c.take_led-in-This.new.self) c.take_led-in-This.result in
+    subst P (sym is) c.take_led-in-This.ensures.answers
 
 pub returns-in-Args-clause-answers : goal.returns-in-Args-clause-answers
 returns-in-Args-clause-answers c =
     let is : build syms.Operand c.args.token.kind c.args.token.at ≡ builds.Take (Make (does.PushPlace c.args.token.at) ∷ Read syms.ADot ∷ Read syms.AName ∷ Make does.ArgsPath ∷ Read syms.PathAtom ∷ []) = ap (λ kind. build syms.Operand kind c.args.token.at) c.in-Args.is in
-    let P : Build → Type 0 = λ b. AnswersBuild c.args.limited syms.Operand c.args.token b (state_of c.args.self.now) (state_of c.take_led.new.self) c.take_led.result in
-    subst P (sym is) c.take_led.ensures.answers
+    let P : Build → Type 0 = λ b. AnswersBuild c.args.limited syms.Operand c.args.token b (state_of c.args.self.now) (state_of c.take_led-in-Args.new.self) c.take_led-in-Args.result in
+    subst P (sym is) c.take_led-in-Args.ensures.answers

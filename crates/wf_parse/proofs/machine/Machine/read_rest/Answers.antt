@@ -17,5 +17,5 @@ returns-in-Binary-clause-answers c =
 pub returns-in-Chain-clause-answers : goal.returns-in-Chain-clause-answers
 returns-in-Chain-clause-answers c =
     let is : build syms.Rest c.args.token.kind c.args.token.at ≡ builds.Take (Make (does.StartChain c.in-Chain.op c.args.token.at) ∷ Make (does.PushPlace c.args.token.at) ∷ Read syms.Operand ∷ Make does.AddLink ∷ Read (syms.Links c.in-Chain.op) ∷ []) = ap (λ kind. build syms.Rest kind c.args.token.at) c.in-Chain.is in
-    let P : Build → Type 0 = λ b. AnswersBuild c.args.limited syms.Rest c.args.token b (state_of c.args.self.now) (state_of c.take_led.new.self) c.take_led.result in
-    subst P (sym is) c.take_led.ensures.answers
+    let P : Build → Type 0 = λ b. AnswersBuild c.args.limited syms.Rest c.args.token b (state_of c.args.self.now) (state_of c.take_led-in-Chain.new.self) c.take_led-in-Chain.result in
+    subst P (sym is) c.take_led-in-Chain.ensures.answers
