@@ -14,6 +14,12 @@ use wf_tool::{Ending, wuffs_tool};
 const SAMPLE: &[u8] =
     b"pub status \"#not a digit\" // a status\npri const X : base.u8 = 0xF_F; pub const y:base.u64=0\n";
 
+const NUMBERS: &[u8] =
+    b"pri const K : base.u32 = 4294967295\npub struct g(\n    n : base.u16,\n)\npub func g.top() base.u32 {\n    return K\n}\npub func g.get() base.u16 {\n    return this.n\n}\n";
+
+const SCRIPT: &[u8] =
+    b"new p g\ncall p.top\ninit p\ncall p.top\ncall p.get\nnull z g\ncall z.top\ninit z\n";
+
 // Words that spaces separate.
 fn words_of(alloc: Global, line: &str) -> Result<Vec<String>, AllocError> {
     let mut words = Vec::new(alloc);
@@ -23,12 +29,20 @@ fn words_of(alloc: Global, line: &str) -> Result<Vec<String>, AllocError> {
     Ok(words)
 }
 
-// The sample under the name `k.wuffs`.
+// An input under a name.
+fn input(alloc: Global, name: &str, bytes: &[u8]) -> Result<(String, Vec<u8>), AllocError> {
+    Ok((
+        String::from_str(alloc, name)?,
+        Vec::from_slice(alloc, bytes)?,
+    ))
+}
+
+// The sample under the name `k.wuffs`, a package with methods under `g.wuffs` and a script for it under `s`.
 fn sample(alloc: Global) -> Result<Vec<(String, Vec<u8>)>, AllocError> {
-    let name = String::from_str(alloc, "k.wuffs")?;
-    let bytes = Vec::from_slice(alloc, SAMPLE)?;
     let mut held = Vec::new(alloc);
-    held.push((name, bytes))?;
+    held.push(input(alloc, "k.wuffs", SAMPLE)?)?;
+    held.push(input(alloc, "g.wuffs", NUMBERS)?)?;
+    held.push(input(alloc, "s", SCRIPT)?)?;
     Ok(held)
 }
 
@@ -102,6 +116,23 @@ const ROWS: &[Row] = &[
         &[],
         Ending::Usage,
         b"usage: wuffsc COMMAND PKG [SCRIPT] FILE\n",
+    ),
+    // What `run` writes is what it sees of the engine that the loader gives: here of one that answers 0 to every call and ok to
+    // every init.
+    (
+        "run g s g.wuffs",
+        &[],
+        &[],
+        Ending::Done,
+        b"new p\ncall p.top 0\ninit p ok\ncall p.top 0\ncall p.get 0\nnull z\ncall z.top 0\ninit z ok\n",
+    ),
+    // `mean` executes the source, whatever loader is handed in.
+    (
+        "mean g s g.wuffs",
+        &[],
+        &[],
+        Ending::Done,
+        b"new p\ncall p.top 0\ninit p ok\ncall p.top 4294967295\ncall p.get 0\nnull z\ncall z.top 0\ninit z \"#base: bad receiver\"\n",
     ),
 ];
 
