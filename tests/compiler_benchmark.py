@@ -2,7 +2,7 @@
 """How the cost of `gen` grows with a package, and its time beside that of compilers on the text that it writes. .ci/run looks at the
 growth, and at the written packages.
 
-usage: compiler_benchmark.py PROGRAM [--growth | --written] [SHAPE..]    all shapes are the default
+usage: compiler_benchmark.py PROGRAM [--growth | --written | --steep] [SHAPE..]    all shapes are the default
 The shapes are those of check_benchmark.py and a few of what `gen` alone makes much of; each grows by steps of about two up to the limit
 that ends it. What is counted is as it is there: instructions, where valgrind is there. The cost of a package without declarations is
 taken off. For each step comes the exponent of its growth, over the step's factor or that of the bytes read and written where this is
@@ -11,6 +11,7 @@ and ends the run with 1. With --growth that is all, and without valgrind nothing
 For the largest package of each shape comes the least time of three runs of `gen`, and of `tcc -c` and `gcc -O0 -c` on the text that it
 writes, one after another in turn, with the factor of `gen`, which checks the package first, over `tcc -c`. Compilers that aren't there
 are skipped.
+With --steep, the growth of the shapes of STEEP is printed, and nothing is asked of it: of these it is known that they grow by more.
 With --written, `gen` and `tcc -c` are compared alone, on each package of examples/ and tests/decoders/ and on those of WRITTEN, 1,024
 methods, a method of 1,024 points, 840 coroutines that are a page long each, and the packages of these folders five times in one: the
 least time of twenty runs in turn, and the instructions of both, where valgrind is there. Where `gen` takes more instructions than
@@ -38,7 +39,7 @@ TURNS = 20
 
 
 def fields(n):
-    return package(method("f", "", "", [f"this.f{i % n} = {i}" for i in range(256)], mark="!"), fields="".join(f"f{i} : base.u32, " for i in range(n)))
+    return package(method("f", "", "", [f"this.f{i % n} = {i}" for i in range(256)], mark="!"), fields=declared_fields(n))
 
 
 def structs(n):
@@ -60,6 +61,49 @@ def unread(n):
     """A chain of `else if` that doesn't read an argument."""
     lines = ["if args.a {", *["} else if args.a {"] * (n - 1), "}"]
     return package(method("f", "a: base.bool, b: base.u32", "", lines))
+
+
+def declared_fields(n):
+    return "".join(f"f{i} : base.u32, " for i in range(n))
+
+
+def long_fact(n):
+    """One fact with many operands, and assignments to fields, which it doesn't mention."""
+    sides = " & ".join(["args.a"] * (8 * n))
+    return package(method("f", "a: base.u32", "", [f"if ({sides}) < 9 {{", *["this.x = 1", "this.y = 2"] * n, "}"], mark="!"), fields="x : base.u32, y : base.u32")
+
+
+def locals_once(n):
+    """Locals that are each declared and assigned once: two facts for each."""
+    return package(method("f", "a: base.u32", "", [*(f"var x{i} : base.u32" for i in range(n)), *(f"x{i} = args.a" for i in range(n))]))
+
+
+def fields_once(n):
+    return package(method("f", "a: base.u32", "", [f"this.f{i} = args.a" for i in range(n)], mark="!"), fields=declared_fields(n))
+
+
+def ifs_of_locals(n):
+    """Arms in which nothing is done, each with the facts on all locals."""
+    return package(method("f", "p: base.bool", "", [*(f"var x{i} : base.u32" for i in range(n)), *["if args.p {", "}"] * (7 * n)]))
+
+
+def turned_arms(n):
+    """Arms that come to the same facts in opposite orders."""
+    arm = [f"x{i} = 1" for i in range(n)]
+    body = [*(f"var x{i} : base.u32" for i in range(n)), "if args.p {", *arm, "} else {", *reversed(arm), "}"]
+    return package(*(method(f"m{i}", "p: base.bool", "", body) for i in range(8)))
+
+
+def promises(n):
+    """A loop with as many promises as ways back to its head."""
+    known = " and ".join(f"(this.f{i} < {i + 9})" for i in range(n))
+    loop = ["while args.p,", *(f"inv this.f{i} < {i + 9}," for i in range(n)), "{", *["if args.q {", "continue", "}"] * n, "} endwhile"]
+    return package(method("f", "p: base.bool, q: base.bool", "", [f"if {known} {{", *loop, "}"]), fields=declared_fields(n))
+
+
+def structs_with_methods(n):
+    """Structs of which every thirty-second has a method."""
+    return "".join(f"pub struct t{i}?()\n" for i in range(32 * n)) + "".join(f"pub func t{32 * i}.m() {{\n}}\n" for i in range(n))
 
 
 def written_packages():
@@ -91,6 +135,17 @@ SHAPES = {
     "locals": (local_variables, (32, 64, 128, 256)),
     "copying": (check_benchmark.copying, (105, 210, 420, 840)),
     "formats": (formats, (7, 14, 28, 56)),
+    "long fact": (long_fact, (128, 256, 512, 1024)),
+}
+
+# What grows by more: what is done for each fact, or for each pair of a struct and a method, is done for all of them.
+STEEP = {
+    "locals once": (locals_once, (32, 64, 128, 256)),
+    "fields once": (fields_once, (64, 128, 256, 511)),
+    "ifs of locals": (ifs_of_locals, (32, 64, 128, 256)),
+    "turned arms": (turned_arms, (32, 64, 128, 256)),
+    "promises": (promises, (16, 32, 64, 128)),
+    "structs with methods": (structs_with_methods, (128, 256, 512, 1024)),
 }
 
 WRITTEN = {"methods": 1024, "points": 1024, "copying": 840, "formats": 5}
@@ -186,9 +241,11 @@ def written(program, folder):
 
 def main():
     words = sys.argv[1:]
-    alone = "--growth" in words
-    program, *names = [word for word in words if word not in ("--growth", "--written")] or [""]
-    if not program or any(name not in SHAPES for name in names):
+    steep = "--steep" in words
+    alone = steep or "--growth" in words
+    shapes = STEEP if steep else SHAPES
+    program, *names = [word for word in words if word not in ("--growth", "--written", "--steep")] or [""]
+    if not program or any(name not in shapes for name in names):
         print(__doc__)
         return 2
     if alone and not shutil.which("valgrind"):
@@ -198,8 +255,10 @@ def main():
         if "--written" in words:
             return 0 if written(os.path.abspath(program), pathlib.Path(at)) else 1
         meter = Meter(os.path.abspath(program), pathlib.Path(at))
-        names = names or list(SHAPES)
-        good = [grows(meter, name, *SHAPES[name]) for name in names]
+        names = names or list(shapes)
+        good = [grows(meter, name, *shapes[name]) for name in names]
+        if steep:
+            return 0
         for name in [] if alone else names:
             make, sizes = SHAPES[name]
             beside_compilers(meter, name, make(sizes[-1]))
