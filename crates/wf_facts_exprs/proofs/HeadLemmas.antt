@@ -55,13 +55,17 @@ module _ (nodes : TypedNodes) (a b : ExprId) (x y : Expr) (one : Lent nodes a x)
   trees_differ k heads (Some m) h = sym (number_first nodes a b x y one other m h k)
   trees_differ k heads None h = sym (heads_differ nodes a b x y one other h k (type_of_node nodes a.0) (type_of_node nodes b.0) refl refl (heads (type_of_node nodes a.0) (type_of_node nodes b.0)))
 
-  pub other_heads : is_number_at nodes a ≡ true → is_number_at nodes b ≡ true → is_plain (num_in (tree_of nodes b)) ≡ true → ((s u : Ty) → same_head s u x y ≡ false)
+  pub varying_heads : is_number_at nodes a ≡ true → is_number_at nodes b ≡ true → constant_of_node nodes b.0 ≡ None → ((s u : Ty) → same_head s u x y ≡ false)
       → same_num (num_in (tree_of nodes a)) (num_in (tree_of nodes b)) ≡ false
-  other_heads left right plain heads =
+  varying_heads left right varies heads =
       numbers_differ (tree_of nodes a) (tree_of nodes b)
       (numeric_is (type_of_node nodes a.0) (tree_of nodes a) (both_of (is_expr nodes a) _ left).1 (kind_seen nodes a x one))
       (numeric_is (type_of_node nodes b.0) (tree_of nodes b) (both_of (is_expr nodes b) _ right).1 (kind_seen nodes b y other))
-      (trees_differ (no_constant plain (constant_of_node nodes b.0) refl) heads (constant_of_node nodes a.0) refl)
+      (trees_differ varies heads (constant_of_node nodes a.0) refl)
+
+  pub other_heads : is_number_at nodes a ≡ true → is_number_at nodes b ≡ true → is_plain (num_in (tree_of nodes b)) ≡ true → ((s u : Ty) → same_head s u x y ≡ false)
+      → same_num (num_in (tree_of nodes a)) (num_in (tree_of nodes b)) ≡ false
+  other_heads left right plain heads = varying_heads left right (no_constant plain (constant_of_node nodes b.0) refl) heads
 
 -- What leaves a range as it is makes nothing of it among the others.
 pub passed_next : (pass : Order → ℕ → Range → Range) (nodes : TypedNodes) (fs : List Fact) (i : ℕ) (d : Fact) (t : NumTree) (r : Range) → i < length fs → r ≡ met_by pass (claim_in nodes (get_or fs i d)) t r

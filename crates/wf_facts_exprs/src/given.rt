@@ -7,7 +7,7 @@ ghost use Rattle.wf_facts_exprs.specs.Given.{decided as decided_by, second_rule 
 ghost use Rattle.wf_facts_exprs.specs.Shapes.{shape_fits, shape_tree};
 
 use crate::facts::{Cmp, Fact, Side};
-use crate::meeting::is_side_of;
+use crate::meeting::{is_other_side, is_side_of};
 use crate::shapes::{Shape, shape_of};
 use wf_ast::Typed;
 use wf_num::Range;
@@ -66,6 +66,9 @@ fn fact_gives(t: &Typed, fact: Fact, a: Shape, op: Cmp, b: Shape) -> bool
             op: known,
             right,
         } => {
+            if is_other_side(t, left, a) && is_other_side(t, left, b) {
+                return false;
+            }
             are_sides_of(t, left, a, right, b, allows_no_more(known, op))
                 || are_sides_of(t, left, b, right, a, allows_no_more(flip(known), op))
         }

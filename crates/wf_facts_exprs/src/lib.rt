@@ -21,4 +21,4 @@ pub use facts::{Cmp, Fact, Side};
 pub use giving::gives;
 pub use operands::{compared_by, is_number, joins, needs_all};
 pub use ranges::{checked_range, gives_sides, range_of};
-pub use sides::same_side;
+pub use sides::{are_other_sides, same_side};

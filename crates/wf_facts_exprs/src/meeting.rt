@@ -96,9 +96,9 @@ fn is_passed_over(t: &Typed, fact: Fact, pass: Pass, shape: Shape) -> bool
     }
 }
 
-// Whether a side is seen at once to be another number or variable than the one that a shape tells.
+/// Whether a side is seen at once to be another number or variable than the one that a shape tells.
 #[tactic(auto, using(crate::proofs::HeadLemmas::not_so))]
-fn is_other_side(t: &Typed, side: Side, shape: Shape) -> bool
+pub(crate) fn is_other_side(t: &Typed, side: Side, shape: Shape) -> bool
     requires side { IsTrue (is_side t.now side) }
     requires shape { IsTrue (shape_fits t.now shape) }
     ensures { IsTrue result → same_num (tree_of_side (side_in t.now side)) (shape_tree t.now shape) ≡ false }

@@ -9,9 +9,10 @@ ghost use Rattle.wf_ast.specs.Same.{same_num, same_slice};
 ghost use Rattle.wf_ast.specs.NodeKinds.{is_number_at};
 ghost use Rattle.wf_base.specs.BaseTable.{row_of};
 ghost use Rattle.wf_facts_exprs.specs.Claims.{is_side, side_in, tree_of_side};
-ghost use Rattle.wf_facts_exprs.specs.Shapes.{Alike, is_measured, is_sum_of_two as adds_two, measured_by, shape_fits, shape_tree};
+ghost use Rattle.wf_facts_exprs.specs.Shapes.{Alike, is_measured, is_plain, is_sum_of_two as adds_two, measured_by, shape_fits, shape_tree};
 
 use crate::facts::Side;
+use crate::heads::are_other_variables;
 use wf_ast::{Expr, ExprId, Op, Ty, Typed, same};
 use wf_base::BaseSig;
 
@@ -155,10 +156,24 @@ pub(crate) fn has_shape(t: &Typed, e: ExprId, shape: Shape) -> bool
 {
     match shape {
         Shape::Number(n) => has_number(t, e, n),
-        Shape::Other(other) => same_numbers(t, e, other),
+        Shape::Other(other) => is_other(t, e, other),
         Shape::Length(_, _) => same_shapes(t, expr_shape(t, e), shape),
         Shape::Sum(_, _) => same_shapes(t, expr_shape(t, e), shape),
     }
+}
+
+// Whether a numeric expression is this one, which is no number, no length and no sum of two. Most are told apart by what stands at
+// the heads of their trees.
+fn is_other(t: &Typed, e: ExprId, other: ExprId) -> bool
+    requires left { IsTrue (is_number_at t.now e) }
+    requires right { IsTrue (is_number_at t.now other) }
+    requires plain { IsTrue (is_plain (num_in (tree_of t.now other))) }
+    ensures { result ≡ same_num (num_in (tree_of t.now e)) (num_in (tree_of t.now other)) }
+{
+    if are_other_variables(t, e, other) {
+        return false;
+    }
+    same_numbers(t, e, other)
 }
 
 /// Whether a numeric expression is a constant with this number.
