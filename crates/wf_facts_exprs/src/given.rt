@@ -1,6 +1,6 @@
 // What a list of facts gives of two sides: by a fact that compares them, or by their ranges.
 
-ghost use Rattle.std.specs.Prelude.{◌≡◌, ◌&&◌, ◌||◌, IsTrue, pos, int_lt, int_le};
+ghost use Rattle.std.specs.Prelude.{◌≡◌, ◌&&◌, ◌||◌, true, IsTrue, pos, int_lt, int_le};
 ghost use Rattle.wf_facts_exprs.specs.Claims.{AreFacts, claim_in, claims_in, flip as flipped, is_fact, is_side, order_of, same_side, side_in, single};
 ghost use Rattle.wf_facts_exprs.specs.RangeOf.{allows_equal as order_allows_equal, allows_greater as order_allows_greater, allows_less as order_allows_less, allows_no_more as order_allows_no_more, claim_gives, first_rule as by_first_rule};
 ghost use Rattle.wf_facts_exprs.specs.Given.{decided as decided_by, second_rule as by_second_rule};
@@ -38,6 +38,26 @@ pub(crate) fn first_rule(t: &Typed, facts: &[Fact], left: Side, op: Cmp, right: 
     ensures { result ≡ by_first_rule (claims_in t.now facts.now) (side_in t.now left) (order_of op) (side_in t.now right) }
 {
     any_gives(t, facts, shape_of(t, left), op, shape_of(t, right))
+}
+
+/// Whether the fact at a place of the list is one of the same two sides that allows nothing but what the comparison does.
+pub(crate) fn first_rule_at(
+    t: &Typed,
+    facts: &[Fact],
+    place: usize,
+    left: Side,
+    op: Cmp,
+    right: Side,
+) -> bool
+    requires known { AreFacts t.now facts.now }
+    requires left { IsTrue (is_side t.now left) }
+    requires right { IsTrue (is_side t.now right) }
+    ensures { IsTrue result → by_first_rule (claims_in t.now facts.now) (side_in t.now left) (order_of op) (side_in t.now right) ≡ true }
+{
+    if place >= facts.len() {
+        return false;
+    }
+    fact_gives(t, facts[place], shape_of(t, left), op, shape_of(t, right))
 }
 
 fn any_gives(t: &Typed, facts: &[Fact], a: Shape, op: Cmp, b: Shape) -> bool

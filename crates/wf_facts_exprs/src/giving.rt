@@ -13,6 +13,7 @@ ghost use Rattle.wf_facts_exprs.specs.Given.{gives as given, gives_sides as side
 ghost use Rattle.wf_facts_exprs.specs.Operands.{all_given, any_given, conds_refusal, is_condition_below};
 
 use crate::facts::{Cmp, Fact, Side};
+use crate::given::first_rule_at;
 use crate::operands::{compared_by, is_number, joins, needs_all};
 use crate::ranges::gives_sides;
 use crate::shapes::look_at;
@@ -129,6 +130,76 @@ fn gives_numbers(t: &Typed, facts: &[Fact], a: ExprId, op: Cmp, b: ExprId) -> bo
     ensures { result ≡ sides_given (claims_in t.now facts.now) (single (node_number t.now a)) (order_of op) (single (node_number t.now b)) }
 {
     gives_sides(t, facts, Side::Expr(a), op, Side::Expr(b))
+}
+
+/// Whether the fact at a place of the list is seen by itself to give a comparison of two numbers. Where it isn't, `gives` looks further.
+pub fn gives_at(t: &Typed, facts: &[Fact], place: usize, e: ExprId) -> bool
+    requires known { AreFacts t.now facts.now }
+    requires node { IsTrue (is_condition_at t.now e) }
+    ensures { IsTrue result → given (claims_in t.now facts.now) (node_cond t.now e) true ≡ true }
+{
+    let expr = t.expr(e);
+    match expr {
+        Expr::Chain { op, parts } => chain_given_at(t, facts, place, e, *op, parts.as_slice()),
+        _ => false,
+    }
+}
+
+// The same of a chain. One that joins conditions isn't looked at.
+fn chain_given_at(
+    t: &Typed,
+    facts: &[Fact],
+    place: usize,
+    e: ExprId,
+    op: Op,
+    parts: &[ExprId],
+) -> bool
+    requires known { AreFacts t.now facts.now }
+    requires node { IsTrue (is_condition_at t.now e) }
+    requires tree { tree_of t.now e ≡ chain_of (place_of_node t.now e.0) (signs_of_node t.now e.0) (type_of_node t.now e.0) (operator_kind op) (map (tree_of t.now) parts.now) }
+    requires fits { IsTrue (chain_fits t.now (operator_kind op) parts.now (type_of_node t.now e.0)) }
+    requires below { IsTrue (list_all (λ p. nat_lt p.0 e.0) parts.now) }
+    ensures { IsTrue result → given (claims_in t.now facts.now) (node_cond t.now e) true ≡ true }
+{
+    if joins(op) {
+        false
+    } else {
+        comparison_given_at(t, facts, place, e, op, parts)
+    }
+}
+
+// The same of a comparison. One of statuses isn't looked at.
+fn comparison_given_at(
+    t: &Typed,
+    facts: &[Fact],
+    place: usize,
+    e: ExprId,
+    op: Op,
+    parts: &[ExprId],
+) -> bool
+    requires known { AreFacts t.now facts.now }
+    requires node { IsTrue (is_condition_at t.now e) }
+    requires tree { tree_of t.now e ≡ chain_of (place_of_node t.now e.0) (signs_of_node t.now e.0) (type_of_node t.now e.0) (operator_kind op) (map (tree_of t.now) parts.now) }
+    requires fits { IsTrue (chain_fits t.now (operator_kind op) parts.now (type_of_node t.now e.0)) }
+    requires below { IsTrue (list_all (λ p. nat_lt p.0 e.0) parts.now) }
+    requires compares { is_joining (operator_kind op) ≡ false }
+    ensures { IsTrue result → given (claims_in t.now facts.now) (node_cond t.now e) true ≡ true }
+{
+    look_at(t, parts[0]);
+    if is_number(t, parts[0]) {
+        numbers_given_at(t, facts, place, parts[0], compared_by(op, true), parts[1])
+    } else {
+        false
+    }
+}
+
+fn numbers_given_at(t: &Typed, facts: &[Fact], place: usize, a: ExprId, op: Cmp, b: ExprId) -> bool
+    requires known { AreFacts t.now facts.now }
+    requires left { IsTrue (is_number_at t.now a) }
+    requires right { IsTrue (is_number_at t.now b) }
+    ensures { IsTrue result → sides_given (claims_in t.now facts.now) (single (node_number t.now a)) (order_of op) (single (node_number t.now b)) ≡ true }
+{
+    first_rule_at(t, facts, place, Side::Expr(a), op, Side::Expr(b))
 }
 
 // Whether the condition itself stands among the facts, with this answer.

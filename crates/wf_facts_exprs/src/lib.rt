@@ -18,7 +18,7 @@ mod sides;
 
 pub use conditions::check_value;
 pub use facts::{Cmp, Fact, Side};
-pub use giving::gives;
+pub use giving::{gives, gives_at};
 pub use operands::{compared_by, is_number, joins, needs_all};
 pub use ranges::{checked_range, gives_sides, range_of};
 pub use sides::{are_other_sides, same_side};
