@@ -14,7 +14,7 @@ use crate::sameness::{same_cmp, same_fact};
 use crate::sets::FactSet;
 use std::alloc::Global;
 use wf_ast::Typed;
-use wf_facts_exprs::{Fact, Side};
+use wf_facts_exprs::{Fact, Side, are_other_sides};
 use wf_text::NoMemory;
 
 /// The answer of a call that would add a fact to a list of 512.
@@ -84,8 +84,8 @@ fn stands_in(t: &Typed, list: &[Fact], f: Fact) -> bool
     place_in(t, list, f).is_some()
 }
 
-// A place of a list at which a fact stands. Most facts of long lists are told apart by their operators, or by the numbers that
-// they compare with.
+// A place of a list at which a fact stands. Most facts of long lists are told apart by their operators, by the numbers that they
+// compare with, or by what stands at the heads of their left sides.
 fn place_in(t: &Typed, list: &[Fact], f: Fact) -> Option<usize>
     requires fact { is_fact t.now f ≡ true }
     requires facts { AreFacts t.now list.now }
@@ -136,8 +136,14 @@ fn are_seen_apart(t: &Typed, f: &Fact, g: &Fact, n: Option<u64>) -> bool
     ensures { IsTrue result → same_claim (claim_in t.now f.now) (claim_in t.now g.now) ≡ false }
 {
     match (f, g) {
-        (Fact::Compare { op, right, .. }, Fact::Compare { op: other, .. }) => {
-            !same_cmp(*op, *other) || are_apart(plain_side_number(t, *right), n)
+        (
+            Fact::Compare { left, op, right },
+            Fact::Compare {
+                left: l, op: other, ..
+            },
+        ) => {
+            !same_cmp(*op, *other)
+                || (are_apart(plain_side_number(t, *right), n) || are_other_sides(t, *left, *l))
         }
         (Fact::Cond { .. }, Fact::Cond { .. }) => false,
         _ => true,

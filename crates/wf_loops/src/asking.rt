@@ -1,9 +1,10 @@
 // Which promises of a loop are required, and where.
 
-ghost use Rattle.std.specs.Prelude.{◌≡◌, true};
+ghost use Rattle.std.specs.Prelude.{◌≡◌, true, IsTrue};
 ghost use Rattle.wf_ast.specs.NodeKinds.{is_condition_at, node_cond};
 ghost use Rattle.wf_facts_exprs.specs.Claims.{AreFacts, claims_in};
 ghost use Rattle.wf_facts_exprs.specs.Demands.{unless_refused};
+ghost use Rattle.wf_facts_exprs.specs.Given.{gives as given};
 ghost use Rattle.wf_facts.specs.IndexedFacts.{IsOver};
 ghost use Rattle.wf_loops.specs.LoopRules.{is_asked as asked_at, rule_of as rule_of_clause, required, promises_refusal, entry_refusal, way_back_refusal, break_refusal, exit_refusal};
 ghost use Rattle.wf_loops.specs.LoopNodes.{is_loop, head_at, place_at, are_conditions, promises_in, Decides};
@@ -14,7 +15,7 @@ use crate::moments::Moment;
 use std::alloc::Global;
 use wf_ast::{Clause, ExprId, StmtId, Typed};
 use wf_facts::Facts;
-use wf_facts_exprs::{Fact, check_value, gives};
+use wf_facts_exprs::{Fact, check_value, gives, gives_at};
 use wf_text::{PhaseFault, Place, Refusal, Rule};
 
 /// Where a loop is entered under these facts: each `pre` and each `inv` in written order has a value, and is given. Err
@@ -76,7 +77,8 @@ fn ask(facts: &Facts, t: &Typed, w: StmtId, moment: Moment, at: Place) -> Result
     require_promises(t, facts.as_slice(), head.clauses.as_slice(), moment, at)
 }
 
-// The promises of a moment, in order.
+// The promises of a moment, in order. Most stand among the facts in the order in which the loop's head has them, so each is looked
+// for first behind where the one before it stood.
 fn require_promises(
     t: &Typed,
     facts: &[Fact],
@@ -88,10 +90,15 @@ fn require_promises(
     requires conditions { are_conditions t.now clauses.now ≡ true }
     ensures { result ≡ unless_refused (promises_refusal moment (claims_in t.now facts.now) at (promises_in t.now clauses.now)) tt }
 {
+    let mut next = 0;
     for i in 0..clauses.len() {
         let (clause, cond) = clauses[i];
+        let stands = gives_at(t, facts, next, cond);
         if is_asked(moment, clause) {
-            require(t, facts, cond, rule_of(clause), at)?;
+            require(t, facts, cond, stands, rule_of(clause), at)?;
+        }
+        if stands {
+            next += 1;
         }
     }
     Ok(())
@@ -118,15 +125,23 @@ fn rule_of(clause: Clause) -> Rule
     }
 }
 
-// A condition has a value under these facts, and is given.
-fn require(t: &Typed, facts: &[Fact], e: ExprId, rule: Rule, at: Place) -> Result<(), Refusal>
+// A condition has a value under these facts, and is given: `stands` where that is known.
+fn require(
+    t: &Typed,
+    facts: &[Fact],
+    e: ExprId,
+    stands: bool,
+    rule: Rule,
+    at: Place,
+) -> Result<(), Refusal>
     requires known { AreFacts t.now facts.now }
     requires condition { is_condition_at t.now e ≡ true }
+    requires stands { IsTrue stands → given (claims_in t.now facts.now) (node_cond t.now e) true ≡ true }
     ensures { result ≡ unless_refused (required (claims_in t.now facts.now) rule at (node_cond t.now e)) tt }
 {
     let _node = t.expr(e);
     check_value(t, facts, e)?;
-    if gives(t, facts, e, true) {
+    if stands || gives(t, facts, e, true) {
         Ok(())
     } else {
         Err(Refusal { rule, at })
