@@ -139,7 +139,9 @@ fn are_seen_apart(t: &Typed, f: &Fact, g: &Fact, n: Option<u64>) -> bool
         (
             Fact::Compare { left, op, right },
             Fact::Compare {
-                left: l, op: other, ..
+                left: l,
+                op: other,
+                ..
             },
         ) => {
             !same_cmp(*op, *other)
