@@ -1,4 +1,5 @@
 -- The promises of a loop one by one, and how its lists grow by their facts.
+use mir.Val.{bool_byte}
 use Rattle.std.proofs.Common.{◌≡◌, ℕ, zero, suc, ◌+◌, ◌<◌, ◌≤◌, Bool, true, false, List, [], ◌∷◌, ◌++◌, length, take, drop, Option, Some, None, Result, Ok, Err, IsErrAnd, MatchResult, OnOk, OnErr, refl, sym, ap, ◌∙◌, subst, arith}
 use Rattle.std.specs.Prelude.{if◌then◌else◌, slice_index_or, slice_get, nat_le}
 use Rattle.std.proofs.lemmas.Bool.Decides.{nat_tests}
@@ -107,6 +108,11 @@ limit_grows at fs gs found h k = by (nat_le (length fs) 512) refl k
     by : (b : Bool) → nat_le (length fs) 512 ≡ b → demand b L8 at ≡ Some found → limit at gs ≡ Some found
     by true e k = absurd (cc (k))
     by false e k = past_limit at gs (grind (arith, nat_tests, e, h)) ∙ k
+
+-- What goes on by one at most stays behind what goes on by one.
+pub at_most_one_more : (n i : ℕ) (b : Bool) → n ≤ i → n + bool_byte b ≤ i + 1
+at_most_one_more n i true h = omega (arith, h)
+at_most_one_more n i false h = omega (arith, h)
 
 -- An answer tells its refusal.
 pub ok_is_none : (refusal : Option Refusal) → Ok (tt {0}) ≡ unless_refused refusal (tt {0}) → refusal ≡ None

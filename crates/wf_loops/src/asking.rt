@@ -97,9 +97,7 @@ fn require_promises(
         if is_asked(moment, clause) {
             require(t, facts, cond, stands, rule_of(clause), at)?;
         }
-        if stands {
-            next += 1;
-        }
+        next += stands as usize;
     }
     Ok(())
 }
