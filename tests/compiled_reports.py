@@ -260,6 +260,14 @@ pub func s.f!(x: base.u8, y: base.u8, w: base.u16) base.u8 {
     m = (((args.w & 7) + (args.w & 8)) | 255) as base.u8
     this.n &= m
     this.w &= 65535 | (args.x as base.u16)
+    m = ((args.w | 255) & 1) as base.u8
+    this.n &= m | 6
+    m = ((args.w | 7 | 254) & 127) as base.u8
+    this.n |= m
+    m = ((((args.w | 127) & 3) + 1) & 254) as base.u8
+    this.n &= m | 3
+    m = (args.x ~mod* args.x) | (args.y & 127) | 255
+    this.n &= m
     return ((args.x / 2) + (args.y / 2)) | 255
 }
 pub func s.g() base.u16 {
@@ -324,6 +332,55 @@ pub func s.f(c: base.u8, w: base.u16, u: base.u32, q: base.u64, g: slice base.u8
     return m
 }
 """, ["bytes x 01", "call p.f c=255 w=65535 u=4294967295 q=18446744073709551615 g=x", "call p.f c=0 w=0 u=0 q=0 g=null", "call p.f c=254 w=255 u=65535 q=1 g=x"]),
+    "comparisons that compilers can decide": ("""\
+pub struct s?(
+    a : array[4] base.u8,
+    w : base.u16,
+)
+pub func s.f(c: base.u8, d: base.u8, w: base.u16, v: base.u16, x: base.u32, y: base.u32, n: base.u64, i: base.u8[..= 3]) base.u32 {
+    var m : base.u32
+    if (((args.c as base.u32) >> 2) < 300) and (((args.w as base.u32) / 3) <= 65535) {
+        m |= 1
+    }
+    if ((args.c as base.u64) & args.n) > 0x1_0000_0000 {
+        m |= 2
+    }
+    if ((args.x & 0) <= args.y) or (args.c < (args.d ~mod- args.d)) {
+        m |= 4
+    }
+    if (args.n < ((args.c & 0) as base.u64)) or (((0 & args.n) & 7) >= ((args.c & 0) as base.u64)) {
+        m |= 8
+    }
+    if (((args.c & 0) & 7) == 4) or (((args.c % 4) & 7) == 4) {
+        m |= 16
+    }
+    if ((args.c & args.d & 15) == 16) or (8 <> ((args.x | 4) | 2)) {
+        m |= 32
+    }
+    if ((args.x & args.y) & 12) == (args.x & args.y & 12) {
+        m |= 64
+    }
+    if (((args.x & 7) + (args.y & 7)) * 2) >= (((args.y & 7) + (args.x & 7)) * 2) {
+        m |= 128
+    }
+    if (args.c ~mod+ args.d) <> (args.d ~mod+ args.c) {
+        m |= 256
+    }
+    if (args.x ~mod- args.x) < (args.y ~mod* 0) {
+        m |= 512
+    }
+    if ((this.a[args.i] & 1) & 2) == ((this.w >> 15) as base.u8) {
+        m |= 1024
+    }
+    if ((args.v & 15) + 3) > ((args.w ~mod<< 4) & 240) {
+        m |= 2048
+    }
+    if 300 == ((args.c >> 1) as base.u16) {
+        m |= 4096
+    }
+    return m
+}
+""", ["call p.f c=255 d=1 w=65535 v=65535 x=4294967295 y=1 n=18446744073709551615 i=3", "call p.f c=0 d=0 w=0 v=0 x=0 y=0 n=0 i=0", "call p.f c=6 d=250 w=300 v=2 x=12 y=7 n=4294967296 i=1"]),
     "what is compared with itself": ("""\
 pub status "#a"
 pub struct s?(

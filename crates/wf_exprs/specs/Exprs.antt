@@ -1,7 +1,7 @@
 -- What an expression of the source is in C. Its value is the same wherever the source's isn't stuck. A cast stands where C
 -- would calculate in another type than the source: a byte beside a word is converted by C itself. Beyond that one stands round an
 -- or that may fill its width, where it is converted.
-use Rattle.std.specs.Prelude.{ℕ, zero, suc, ◌-◌, ◌*◌, ◌/◌, ◌^◌, Bool, true, false, not, ◌&&◌, ◌||◌, if◌then◌else◌, nat_eq, nat_le, nat_lt, List, [], ◌∷◌, ◌++◌, Option, None, Some, bytes_eq, bit_and, codes, decimal}
+use Rattle.std.specs.Prelude.{ℕ, zero, suc, ◌-◌, ◌*◌, ◌/◌, ◌^◌, Bool, true, false, not, ◌&&◌, ◌||◌, if◌then◌else◌, nat_eq, nat_le, nat_lt, List, [], ◌∷◌, ◌++◌, Option, None, Some, bytes_eq, codes, decimal}
 use Rattle.wf_text.specs.declared.categories.Category.{Category}
 use Rattle.wf_text.specs.declared.categories.Category.TheVariants.{Fine, Note, Suspension, Fault}
 use Rattle.wf_num.specs.declared.c_arithmetic.CTy.{CTy}
@@ -124,8 +124,8 @@ abbrev pub is_literal : ExprTree → Bool
 is_literal (c.number n) = true
 is_literal e = false
 
--- An or of a constant with what is calculated, or with all ones of 8 or 16 bits. gcc remarks where such an or in `int` becomes a
--- constant as it is converted to fewer bits, unless a cast says that it is.
+-- gcc remarks where an or in `int` becomes a constant as it is converted to fewer bits, unless a cast says that it is: an or of a constant
+-- with what is calculated, or with all ones of 8 or 16 bits, one of three operands or more, and one inside of what is calculated.
 abbrev pub is_full : ExprTree → Bool
 is_full (c.number (literals.Int n)) = nat_eq n 255 || nat_eq n 65535
 is_full e = false
@@ -137,8 +137,24 @@ abbrev pub is_or : COp → Bool
 is_or BitOr = true
 is_or op = false
 
+abbrev mutual
+  -- Not in what a call is given, nor in an index.
+  pub has_or : ExprTree → Bool
+  has_or (operation op a b others) = is_or op || (has_or a || (has_or b || any_or others))
+  has_or (cast to e) = has_or e
+  has_or e = false
+
+  pub any_or : Operands → Bool
+  any_or no_operand = false
+  any_or (operand e es) = has_or e || any_or es
+
+abbrev pub has_no_more : Operands → Bool
+has_no_more no_operand = true
+has_no_more (operand e es) = false
+
 abbrev pub is_filled : ExprTree → Bool
-is_filled (operation op a b others) = is_or op && (fills a b || fills b a)
+is_filled (operation op a b others) =
+    (is_or op && (not (has_no_more others) || (fills a b || fills b a))) || (has_or a || (has_or b || any_or others))
 is_filled e = false
 
 -- What C converts to a width: where it is assigned, passed or returned.
@@ -382,58 +398,13 @@ abbrev pub compared : Order → ExprTree → ExprTree → ExprTree
 compared equal a b = if is_literal a then two Eq a b else same_code a b (is_literal b)
 compared op a b = two (order_op op) a b
 
--- Compilers say of a comparison that the types of its operands decide it: of one with a constant that is the greatest number of a
--- cell, or greater. They don't say so of what 0 was added to.
+-- Compilers say of what is compared with itself that it is: gcc of any two expressions that are alike node by node, or whose two
+-- operands stand the other way round. No compiler takes two calls for one.
 abbrev pub literal_value : CNumber → ℕ
 literal_value (literals.Int n) = n
 literal_value (literals.Unsigned n) = n
 literal_value (literals.Long n) = n
 
--- The greatest number of the narrowest cells with which C calculates in a type.
-abbrev pub greatest_of : CTy → ℕ
-greatest_of Int = 255
-greatest_of U32 = 4294967295
-greatest_of U64 = 18446744073709551615
-
-abbrev pub is_beyond : ExprTree → CTy → Bool
-is_beyond (c.number n) ty = nat_le (greatest_of ty) (literal_value n)
-is_beyond e ty = false
-
--- They say so too where a mask decides it: an and that clears a bit of the constant, or an or that sets another one.
-abbrev pub masks : COp → (mask other : ℕ) → Bool
-masks BitAnd m n = not (nat_eq (bit_and m n) n)
-masks BitOr m n = not (nat_eq (bit_and m n) m)
-masks op m n = false
-
-abbrev pub is_mask : COp → ExprTree → (other : ℕ) → Bool
-is_mask op (c.number m) n = masks op (literal_value m) n
-is_mask op e n = false
-
-abbrev pub is_masked : ExprTree → (other : ℕ) → Bool
-is_masked (operation op a b others) n = is_mask op a n || is_mask op b n
-is_masked e n = false
-
-abbrev pub mask_decides : (left right : ExprTree) → Bool
-mask_decides a (c.number n) = is_masked a (literal_value n)
-mask_decides a b = false
-
-abbrev pub is_decided : (a b : Rated) → Bool
-is_decided a b = is_beyond b.code a.ty || mask_decides a.code b.code
-
-abbrev pub plus_zero : ExprTree → CTy → Rated
-plus_zero e ty = rated (two Add e (num 0)) ty
-
--- In the wider of two types 0 is added to a number.
-abbrev pub plus_zero_in : Rated → CTy → Rated
-plus_zero_in a ty =
-    if nat_lt (rank a.ty) (rank ty) then plus_zero (cast (uint_of (c_width ty)) a.code) (calculated (c_width ty)) else plus_zero a.code a.ty
-
--- An operand of a comparison, with the other one.
-abbrev pub compared_with : (a b : Rated) → Rated
-compared_with a b = if is_decided a b then plus_zero_in a b.ty else beside a b.ty
-
--- They say so of what is compared with itself, too: gcc of any two expressions that are alike node by node, or whose two operands stand
--- the other way round. No compiler takes two calls for one.
 abbrev mutual
   pub alike : (e other : ExprTree) → Bool
   alike (c.number n) (c.number k) = nat_eq (literal_value n) (literal_value k)
@@ -458,9 +429,53 @@ is_turned e other = false
 abbrev pub is_itself : (e other : ExprTree) → Bool
 is_itself e other = alike e other || is_turned e other
 
--- The left operand: 0 is added to it where it is compared with itself.
+-- They say of a comparison that the types of its operands decide it, too: of one with a constant that is the greatest number of a
+-- cell, or greater.
+--
+-- The greatest number of the narrowest cells with which C calculates in a type.
+abbrev pub greatest_of : CTy → ℕ
+greatest_of Int = 255
+greatest_of U32 = 4294967295
+greatest_of U64 = 18446744073709551615
+
+abbrev pub is_beyond : ExprTree → CTy → Bool
+is_beyond (c.number n) ty = nat_le (greatest_of ty) (literal_value n)
+is_beyond e ty = false
+
+-- And they follow what is calculated: they know that `(x & 0)` is 0, that `(c >> 2)` of a byte is below 64, and that `((a & b) & c)` is
+-- `(a & b & c)`. Of a sum or a difference of two that are held they know nothing, unless it is a number less itself.
+abbrev pub is_step : COp → (left right : ExprTree) → Bool
+is_step Add a b = is_held a && is_held b
+is_step Sub a b = is_held a && (is_held b && not (alike a b))
+is_step op a b = false
+
+abbrev pub is_calculated : ExprTree → Bool
+is_calculated (operation op a b others) = not (has_no_more others && is_step op a b)
+is_calculated (cast to e) = true
+is_calculated e = false
+
+abbrev pub is_decided : (a b : Rated) → Bool
+is_decided a b = is_beyond b.code a.ty || is_calculated a.code
+
+-- They don't follow it through a 0 that is added or subtracted: so that is done to what may decide a comparison. At the left 0 is added
+-- and at the right it is subtracted, since two sums may be alike.
+abbrev pub unmoved : (sign : COp) → ExprTree → CTy → Rated
+unmoved sign e ty = rated (two sign e (num 0)) ty
+
+-- In the wider of two types.
+abbrev pub unmoved_in : (sign : COp) → Rated → CTy → Rated
+unmoved_in sign a ty =
+    if nat_lt (rank a.ty) (rank ty) then unmoved sign (cast (uint_of (c_width ty)) a.code) (calculated (c_width ty)) else unmoved sign a.code a.ty
+
+-- An operand of a comparison, with the other one.
+abbrev pub compared_with : (sign : COp) → (a b : Rated) → Rated
+compared_with sign a b = if is_decided a b then unmoved_in sign a b.ty else beside a b.ty
+
 abbrev pub left_compared : (a b : Rated) → Rated
-left_compared a b = if is_itself a.code b.code then plus_zero_in a b.ty else compared_with a b
+left_compared a b = if is_itself a.code b.code then unmoved_in Add a b.ty else compared_with Add a b
+
+abbrev pub right_compared : (b a : Rated) → Rated
+right_compared b a = compared_with Sub b a
 
 -- No number is below 0. A comparison that asks for that is 1 or 0 itself.
 abbrev pub is_literal_zero : ExprTree → Bool
@@ -483,7 +498,7 @@ settled_or (Some met) e = num (if met then 1 else 0)
 settled_or None e = e
 
 abbrev pub numbers_compared : Order → Rated → Rated → ExprTree
-numbers_compared op a b = settled_or (settled op a.code b.code) (compared op (left_compared a b).code (compared_with b a).code)
+numbers_compared op a b = settled_or (settled op a.code b.code) (compared op (left_compared a b).code (right_compared b a).code)
 
 abbrev pub is_constant : StatusTree → Bool
 is_constant (status at n) = true

@@ -48,10 +48,10 @@ fn is_turned(u: &Unit, e: CExprId, other: CExprId) -> bool
     }
 }
 
-// Whether two expressions are alike node by node. No two calls are. It recurses into parts, and so goes as deep as expressions stand
-// inside one another; the operands of a chain stand side by side.
+/// Whether two expressions are alike node by node. No two calls are. It recurses into parts, and so goes as deep as expressions stand
+/// inside one another; the operands of a chain stand side by side.
 #[cycle(alike)]
-fn are_alike(u: &Unit, e: CExprId, other: CExprId) -> bool
+pub(crate) fn are_alike(u: &Unit, e: CExprId, other: CExprId) -> bool
     requires one { e.0 < length u.now.exprs }
     requires other { other.0 < length u.now.exprs }
     ensures { result ≡ alike (expr_of u.now e.0) (expr_of u.now other.0) }

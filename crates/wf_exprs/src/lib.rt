@@ -6,6 +6,7 @@ mod alike;
 pub mod examples;
 pub mod names;
 pub mod nodes;
+mod ors;
 pub mod rated;
 pub mod scope;
 

@@ -1,20 +1,21 @@
 // Numbers of C with the type in which C calculates them, and the operators between them. A cast stands where C would calculate
 // in another type than the source, and beyond that round an or that may fill its width, where it is converted.
 
-ghost use Rattle.std.specs.Prelude.{◌≡◌, ◌<◌, nat_lt, true, false, length, IfOk, Some, None};
+ghost use Rattle.std.specs.Prelude.{◌≡◌, ◌<◌, nat_eq, nat_lt, true, false, length, IfOk, Some, None};
 ghost use Rattle.wf_base.specs.BaseTable.{bits_of};
 ghost use Rattle.wf_ast.specs.TypedTrees.{operator_kind};
 ghost use Rattle.c_text.specs.CNodes.{expr_of};
 ghost use Rattle.c_text.specs.CSpelling.{IsLiteral};
 ghost use Rattle.wf_num.specs.CArithmetic.{c_width};
-ghost use Rattle.wf_exprs.specs.Exprs.{balanced as balanced_code, beside as beside_code, calculated as calculated_of, compared_with as compared_with_code, converted as converted_code, cut_off as cut_off_code, factor as factor_code, fills as fills_tree, firm as firm_code, greatest_of as greatest_in, is_beyond as is_beyond_tree, is_decided as is_decided_by, is_filled as is_filled_tree, is_full as is_full_tree, is_mask as is_mask_tree, is_masked as is_masked_tree, is_or as is_or_op, left_compared as left_compared_code, literal_type as type_of_literal, literal_value as value_of_literal, mask_decides as mask_decides_tree, masks as masks_number, plus_zero as plus_zero_code, plus_zero_in as plus_zero_in_code, rank as rank_of, recast as recast_code, saturated as saturated_code, saturating_name as name_of_saturating, suffixed as suffixed_literal, taken as taken_code, widened as widened_code, wider as wider_of};
+ghost use Rattle.wf_exprs.specs.Exprs.{balanced as balanced_code, beside as beside_code, calculated as calculated_of, compared_with as compared_with_code, converted as converted_code, cut_off as cut_off_code, factor as factor_code, fills as fills_tree, firm as firm_code, greatest_of as greatest_in, is_beyond as is_beyond_tree, is_decided as is_decided_by, is_filled as is_filled_tree, is_calculated as is_calculated_tree, is_full as is_full_tree, is_step as is_step_tree, left_compared as left_compared_code, literal_type as type_of_literal, literal_value as value_of_literal, rank as rank_of, recast as recast_code, right_compared as right_compared_code, saturated as saturated_code, saturating_name as name_of_saturating, suffixed as suffixed_literal, taken as taken_code, unmoved as unmoved_code, unmoved_in as unmoved_in_code, widened as widened_code, wider as wider_of};
 ghost use Rattle.wf_exprs.specs.Grown.{Grows, HasExpr, HasNamed};
 ghost use Rattle.wf_exprs.specs.Making.{HasRated, c_op, linked_by, rated_in, small_number};
 ghost use Rattle.wf_exprs.specs.Words.{two as two_trees};
 
-use crate::alike::is_itself;
+use crate::alike::{are_alike, is_itself};
 use crate::names::put_numbered;
 use crate::nodes::{called, cast, is_held, is_literal, literal, number, put, two};
+use crate::ors::{any_or, has_or, is_or};
 use c_text::{CExpr, CExprId, CNameId, CNumber, COp, Unit};
 use std::alloc::Global;
 use wf_ast::Op;
@@ -172,16 +173,14 @@ fn fills(u: &Unit, a: CExprId, b: CExprId) -> bool
     is_literal(u, a) && (is_full(u, a) || !is_held(u, b))
 }
 
-fn is_or(op: COp) -> bool
-    ensures { result ≡ is_or_op op }
+// Whether an operation has no more than two operands.
+fn has_no_more(others: &[CExprId]) -> bool
+    ensures { result ≡ nat_eq (length others.now) 0 }
 {
-    match op {
-        COp::BitOr => true,
-        _ => false,
-    }
+    others.is_empty()
 }
 
-/// Whether an expression is an or that may be a constant once it is converted.
+/// Whether an expression has an or that may be a constant once it is converted.
 fn is_filled(u: &Unit, e: CExprId) -> bool
     requires { e.0 < length u.now.exprs }
     ensures { result ≡ is_filled_tree (expr_of u.now e.0) }
@@ -191,8 +190,13 @@ fn is_filled(u: &Unit, e: CExprId) -> bool
             op,
             first,
             second,
-            ..
-        } => is_or(*op) && (fills(u, *first, *second) || fills(u, *second, *first)),
+            others,
+        } => {
+            is_or(*op)
+                && (!has_no_more(others.as_slice())
+                    || (fills(u, *first, *second) || fills(u, *second, *first)))
+                || (has_or(u, *first) || (has_or(u, *second) || any_or(u, e, others.as_slice())))
+        }
         _ => false,
     }
 }
@@ -471,52 +475,32 @@ fn is_beyond(u: &Unit, e: CExprId, ty: CTy) -> bool
     }
 }
 
-/// Whether a mask decides whether what it leaves is another number: an and clears a bit of that, or an or sets another one.
-fn masks(op: COp, mask: u64, other: u64) -> bool
-    ensures { result ≡ masks_number op mask other }
+// Whether an operation of two operands is a sum or a difference of two that are held, of which compilers know nothing.
+fn is_step(u: &Unit, op: COp, a: CExprId, b: CExprId) -> bool
+    requires left { a.0 < length u.now.exprs }
+    requires right { b.0 < length u.now.exprs }
+    ensures { result ≡ is_step_tree op (expr_of u.now a.0) (expr_of u.now b.0) }
 {
     match op {
-        COp::BitAnd => mask & other != other,
-        COp::BitOr => mask & other != mask,
+        COp::Add => is_held(u, a) && is_held(u, b),
+        COp::Sub => is_held(u, a) && (is_held(u, b) && !are_alike(u, a, b)),
         _ => false,
     }
 }
 
-/// Whether an operand is a mask that decides it.
-fn is_mask(u: &Unit, op: COp, e: CExprId, other: u64) -> bool
+/// Whether an expression is calculated, and compilers may know something of what it comes to.
+fn is_calculated(u: &Unit, e: CExprId) -> bool
     requires { e.0 < length u.now.exprs }
-    ensures { result ≡ is_mask_tree op (expr_of u.now e.0) other }
-{
-    match u.expr(e) {
-        CExpr::Number(n) => masks(op, literal_value(*n), other),
-        _ => false,
-    }
-}
-
-/// Whether an expression has a mask that decides whether it is a number.
-fn is_masked(u: &Unit, e: CExprId, other: u64) -> bool
-    requires { e.0 < length u.now.exprs }
-    ensures { result ≡ is_masked_tree (expr_of u.now e.0) other }
+    ensures { result ≡ is_calculated_tree (expr_of u.now e.0) }
 {
     match u.expr(e) {
         CExpr::Operation {
             op,
             first,
             second,
-            ..
-        } => is_mask(u, *op, *first, other) || is_mask(u, *op, *second, other),
-        _ => false,
-    }
-}
-
-/// Whether a mask decides a comparison with a constant.
-fn mask_decides(u: &Unit, a: CExprId, b: CExprId) -> bool
-    requires left { a.0 < length u.now.exprs }
-    requires right { b.0 < length u.now.exprs }
-    ensures { result ≡ mask_decides_tree (expr_of u.now a.0) (expr_of u.now b.0) }
-{
-    match u.expr(b) {
-        CExpr::Number(n) => is_masked(u, a, literal_value(*n)),
+            others,
+        } => !(has_no_more(others.as_slice()) && is_step(u, *op, *first, *second)),
+        CExpr::Cast { .. } => true,
         _ => false,
     }
 }
@@ -527,17 +511,17 @@ fn is_decided(u: &Unit, a: Rated, b: Rated) -> bool
     requires right { b.code.0 < length u.now.exprs }
     ensures { result ≡ is_decided_by (rated_in u.now a) (rated_in u.now b) }
 {
-    is_beyond(u, b.code, a.ty) || mask_decides(u, a.code, b.code)
+    is_beyond(u, b.code, a.ty) || is_calculated(u, a.code)
 }
 
-/// A number with 0 added to it.
-fn plus_zero(alloc: Global, u: &mut Unit, e: CExprId, ty: CTy) -> Result<Rated, NoMemory>
+/// A number with 0 added to it or subtracted from it.
+fn unmoved(alloc: Global, u: &mut Unit, sign: COp, e: CExprId, ty: CTy) -> Result<Rated, NoMemory>
     requires { e.0 < length u.old.exprs }
     ensures grows { Grows u.old u.new }
-    ensures made { IfOk result (λ r. HasRated u.new r (plus_zero_code (expr_of u.old e.0) ty)) }
+    ensures made { IfOk result (λ r. HasRated u.new r (unmoved_code sign (expr_of u.old e.0) ty)) }
 {
     let none = number(u, 0)?;
-    let code = two(alloc, u, COp::Add, e, none)?;
+    let code = two(alloc, u, sign, e, none)?;
     Ok(Rated { code, ty })
 }
 
@@ -547,37 +531,42 @@ fn is_narrower(a: CTy, b: CTy) -> bool
     rank(a) < rank(b)
 }
 
-/// A number with 0 added to it in the wider of two types.
-fn plus_zero_in(alloc: Global, u: &mut Unit, a: Rated, ty: CTy) -> Result<Rated, NoMemory>
+/// A number with 0 added to it or subtracted from it in the wider of two types.
+fn unmoved_in(alloc: Global, u: &mut Unit, sign: COp, a: Rated, ty: CTy) -> Result<Rated, NoMemory>
     requires { a.code.0 < length u.old.exprs }
     ensures grows { Grows u.old u.new }
-    ensures made { IfOk result (λ r. HasRated u.new r (plus_zero_in_code (rated_in u.old a) ty)) }
+    ensures made { IfOk result (λ r. HasRated u.new r (unmoved_in_code sign (rated_in u.old a) ty)) }
 {
     if is_narrower(a.ty, ty) {
         let width = width_in(ty);
         let code = cast(u, width, a.code)?;
-        plus_zero(alloc, u, code, calculated(width))
+        unmoved(alloc, u, sign, code, calculated(width))
     } else {
-        plus_zero(alloc, u, a.code, a.ty)
+        unmoved(alloc, u, sign, a.code, a.ty)
     }
 }
 
-/// An operand of a comparison, with the other one. Beside a constant that it may not be 0 is added to it, since compilers remark that
-/// its type or its mask decides.
-pub fn compared_with(alloc: Global, u: &mut Unit, a: Rated, b: Rated) -> Result<Rated, NoMemory>
+// An operand of a comparison, with the other one. Where compilers may know that it decides 0 is added to it or subtracted from it.
+fn compared_with(
+    alloc: Global,
+    u: &mut Unit,
+    sign: COp,
+    a: Rated,
+    b: Rated,
+) -> Result<Rated, NoMemory>
     requires operand { a.code.0 < length u.old.exprs }
     requires other { b.code.0 < length u.old.exprs }
     ensures grows { Grows u.old u.new }
-    ensures made { IfOk result (λ r. HasRated u.new r (compared_with_code (rated_in u.old a) (rated_in u.old b))) }
+    ensures made { IfOk result (λ r. HasRated u.new r (compared_with_code sign (rated_in u.old a) (rated_in u.old b))) }
 {
     if is_decided(u, a, b) {
-        plus_zero_in(alloc, u, a, b.ty)
+        unmoved_in(alloc, u, sign, a, b.ty)
     } else {
         beside(u, a, b.ty)
     }
 }
 
-/// The left operand of a comparison, with the other one. Where it is compared with itself 0 is added to it.
+/// The left operand of a comparison, with the right one. Where it may decide or is compared with itself 0 is added to it.
 pub fn left_compared(alloc: Global, u: &mut Unit, a: Rated, b: Rated) -> Result<Rated, NoMemory>
     requires operand { a.code.0 < length u.old.exprs }
     requires other { b.code.0 < length u.old.exprs }
@@ -585,8 +574,18 @@ pub fn left_compared(alloc: Global, u: &mut Unit, a: Rated, b: Rated) -> Result<
     ensures made { IfOk result (λ r. HasRated u.new r (left_compared_code (rated_in u.old a) (rated_in u.old b))) }
 {
     if is_itself(u, a.code, b.code) {
-        plus_zero_in(alloc, u, a, b.ty)
+        unmoved_in(alloc, u, COp::Add, a, b.ty)
     } else {
-        compared_with(alloc, u, a, b)
+        compared_with(alloc, u, COp::Add, a, b)
     }
+}
+
+/// The right operand of a comparison, with the left one. Where it may decide 0 is subtracted from it.
+pub fn right_compared(alloc: Global, u: &mut Unit, b: Rated, a: Rated) -> Result<Rated, NoMemory>
+    requires operand { b.code.0 < length u.old.exprs }
+    requires other { a.code.0 < length u.old.exprs }
+    ensures grows { Grows u.old u.new }
+    ensures made { IfOk result (λ r. HasRated u.new r (right_compared_code (rated_in u.old b) (rated_in u.old a))) }
+{
+    compared_with(alloc, u, COp::Sub, b, a)
 }

@@ -34,12 +34,12 @@ use Rattle.c_meaning.specs.CExprs.{Surroundings, held_value, combined, truth_val
 use Rattle.c_meaning.specs.CExprs as c
 use Rattle.wf_exprs.specs.Names.{names_of, status_name}
 use Rattle.wf_exprs.specs.Words.{literal, num, two}
-use Rattle.wf_exprs.specs.Exprs.{literal_type, path_code, is_held, is_literal, is_constant, constant_number, constants_compared, held_compared, order_op, Rated, compared, compared_with, left_compared, is_literal_zero, known_if, settled, settled_or, numbers_compared, chained, comparand, status_constant, lowered_status, variables_compared, statuses_compared, begins_with, category_code, lowered_cond}
+use Rattle.wf_exprs.specs.Exprs.{literal_type, path_code, is_held, is_literal, is_constant, constant_number, constants_compared, held_compared, order_op, Rated, compared, left_compared, right_compared, is_literal_zero, known_if, settled, settled_or, numbers_compared, chained, comparand, status_constant, lowered_status, variables_compared, statuses_compared, begins_with, category_code, lowered_cond}
 use Rattle.wf_exprs_laws.specs.ExprLaw.{Declares, HasConstant, DeclaresStatus, DeclaresCond, IsNull, IsStatusValue, GivesNumber, GivesStatus, cell_behind, Stands}
 use Rattle.wf_exprs_laws.proofs.CNumbers.{comparison-whole}
 use Rattle.wf_exprs_laws.proofs.Operands.{IsNumber, literal-number, zero-number, chained-value}
 use Rattle.wf_exprs_laws.proofs.Buffers.{buffer-some, reader-type}
-use Rattle.wf_exprs_laws.proofs.Trees.{came, mapped, comparand-number, compared_with-number, left_compared-number}
+use Rattle.wf_exprs_laws.proofs.Trees.{came, mapped, comparand-number, left_compared-number, right_compared-number}
 
 -- An expression of C holds or doesn't, as a truth value says, and is 1 or 0 in a flag's cell.
 pub record CondGives (x : Surroundings) (e : ExprTree) (b : Bool) : Type 0 where
@@ -148,8 +148,8 @@ settled-cond x None e t h g = g
 
 numbers-cond : (x : Surroundings) (op : Order) (a b : Rated) (m n : ℕ) → IsNumber x a.code a.ty m → IsNumber x b.code b.ty n → CondGives x (numbers_compared op a b) (compares op m n)
 numbers-cond x op a b m n h g =
-    settled-cond x (settled op a.code b.code) (compared op (left_compared a b).code (compared_with b a).code) (compares op m n) (settled-value x op a.code b.code a.ty b.ty m n h g)
-    (compared-cond x op (left_compared a b).code (compared_with b a).code (left_compared a b).ty (compared_with b a).ty m n (left_compared-number x a b m h) (compared_with-number x b a n g))
+    settled-cond x (settled op a.code b.code) (compared op (left_compared a b).code (right_compared b a).code) (compares op m n) (settled-value x op a.code b.code a.ty b.ty m n h g)
+    (compared-cond x op (left_compared a b).code (right_compared b a).code (left_compared a b).ty (right_compared b a).ty m n (left_compared-number x a b m h) (right_compared-number x b a n g))
 
 -- ---- `and` and `or`
 

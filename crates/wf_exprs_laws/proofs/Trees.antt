@@ -1,12 +1,12 @@
 -- The law for numbers and slices, by their trees.
 use Rattle.std.proofs.Common.{◌≡◌, ℕ, ◌+◌, ◌-◌, ◌%◌, ◌^◌, ◌<◌, ◌≤◌, Bool, true, false, not, ◌&&◌, ◌||◌, Option, Some, None, refl, ap, ◌∙◌, sym, subst, arith, inl, inr}
-use Rattle.std.specs.Prelude.{if◌then◌else◌, nat_eq, nat_le, nat_lt, bit_xor, option_map, option_and_then}
+use Rattle.std.specs.Prelude.{if◌then◌else◌, nat_eq, nat_le, nat_lt, bit_xor, option_map, option_and_then, ⊤}
 use Rattle.std.proofs.lemmas.Bool.{and_parts, or_cases}
 use Rattle.std.proofs.lemmas.Bool.Decides.{nat_tests}
 use Rattle.wf_num.specs.declared.c_arithmetic.CTy.{CTy}
 use Rattle.wf_num.specs.declared.c_arithmetic.CTy.TheVariants.{Int, U32, U64}
-use Rattle.wf_num.specs.CArithmetic.{c_width, c_sum}
-use Rattle.wf_num.proofs.CLaws.{c_limit, c_sum-whole}
+use Rattle.wf_num.specs.CArithmetic.{c_width, c_sum, c_difference}
+use Rattle.wf_num.proofs.CLaws.{c_limit, c_sum-whole, c_difference-whole}
 use Rattle.wf_base.specs.declared.widths.Width.{Width}
 use Rattle.wf_base.specs.declared.widths.Width.TheVariants.{W8, W16, W32, W64}
 use Rattle.wf_base.specs.BaseTable.{bits_of}
@@ -24,8 +24,9 @@ use Rattle.c_meaning.specs.declared.values.CValue.TheVariants.{NullPointer as nu
 use Rattle.c_meaning.specs.CExprs.{Surroundings}
 use Rattle.wf_exprs.specs.Names.{Names, names_of}
 use Rattle.wf_exprs.specs.Words.{num, uint_of, two}
-use Rattle.wf_exprs.specs.Exprs.{calculated, rank, Rated, rated, is_held, converted, widened, beside, is_decided, plus_zero, plus_zero_in, compared_with, is_itself, left_compared, bare, apart, with_zero, xor_operand, is_ones, is_short_ones, is_converted, pair_compared, comparand, is_array, asked_code, lowered, given, lowered_slice, lowered_end}
-use Rattle.c_text.specs.declared.kinds.COp.TheVariants.{Add}
+use Rattle.wf_exprs.specs.Exprs.{calculated, rank, Rated, rated, is_held, converted, widened, beside, is_decided, unmoved, unmoved_in, compared_with, is_itself, left_compared, right_compared, bare, apart, with_zero, xor_operand, is_ones, is_short_ones, is_converted, pair_compared, comparand, is_array, asked_code, lowered, given, lowered_slice, lowered_end}
+use Rattle.c_text.specs.declared.kinds.COp.{COp}
+use Rattle.c_text.specs.declared.kinds.COp.TheVariants.{Add, Sub}
 use Rattle.c_text.specs.CTree.{ExprTree, cast}
 use Rattle.wf_exprs_laws.specs.ExprLaw.{DeclaresOperator, DeclaresQuestion, Declares, DeclaresSlice, DeclaresEnd, GivesPointer, SpanStands, Stands}
 use Rattle.wf_exprs_laws.proofs.CNumbers.{by_width, width-limit}
@@ -124,42 +125,60 @@ beside-number x a ty n h = by (nat_lt (rank a.ty) (rank ty)) refl
     by true e = widened-number (c_width ty) (width-of_type ty) x a n h (in-wider a.ty ty n (grind (arith, nat_tests, e)) h.small)
     by false e = h
 
--- With 0 added a number is the same.
+-- With 0 added to it or subtracted from it a number is the same.
 sum-zero : (x : Surroundings) (e : ExprTree) (ty : CTy) (n : ℕ) → IsNumber x e ty n → Calculates x (two Add e (num 0)) ty (c_sum ty n 0)
 sum-zero x e Int n h = chained-number x false Add refl e (num 0) Int Int n 0 h (literal-number x 0 (omega arith))
 sum-zero x e U32 n h = chained-number x false Add refl e (num 0) U32 Int n 0 h (literal-number x 0 (omega arith))
 sum-zero x e U64 n h = chained-number x false Add refl e (num 0) U64 Int n 0 h (literal-number x 0 (omega arith))
 
-plus_zero-number : (x : Surroundings) (e : ExprTree) (ty : CTy) (n : ℕ) → IsNumber x e ty n → IsNumber x (plus_zero e ty).code (plus_zero e ty).ty n
-plus_zero-number x e ty n h =
+difference-zero : (x : Surroundings) (e : ExprTree) (ty : CTy) (n : ℕ) → IsNumber x e ty n → Calculates x (two Sub e (num 0)) ty (c_difference ty n 0)
+difference-zero x e Int n h = chained-number x false Sub refl e (num 0) Int Int n 0 h (literal-number x 0 (omega arith))
+difference-zero x e U32 n h = chained-number x false Sub refl e (num 0) U32 Int n 0 h (literal-number x 0 (omega arith))
+difference-zero x e U64 n h = chained-number x false Sub refl e (num 0) U64 Int n 0 h (literal-number x 0 (omega arith))
+
+abbrev IsSign : COp → Type 0
+IsSign Add = ⊤
+IsSign Sub = ⊤
+IsSign op = ⊥
+
+unmoved-number : (x : Surroundings) (sign : COp) → IsSign sign → (e : ExprTree) (ty : CTy) (n : ℕ) → IsNumber x e ty n → IsNumber x (unmoved sign e ty).code (unmoved sign e ty).ty n
+unmoved-number x Add s e ty n h =
     let same : n + 0 ≡ n = omega arith in
     calculated-number x (two Add e (num 0)) ty (c_sum ty n 0) n (sum-zero x e ty n h)
     (c_sum-whole ty n 0 h.small (omega (arith, h.small)) (omega (arith, h.small)) ∙ ap Some same) h.small
+unmoved-number x Sub s e ty n h =
+    let same : n - 0 ≡ n = omega arith in
+    calculated-number x (two Sub e (num 0)) ty (c_difference ty n 0) n (difference-zero x e ty n h)
+    (c_difference-whole ty n 0 h.small (omega arith) ∙ ap Some same) h.small
+unmoved-number x op s e ty n h = absurd s
 
-plus_zero_in-number : (x : Surroundings) (a : Rated) (ty : CTy) (n : ℕ) → IsNumber x a.code a.ty n → IsNumber x (plus_zero_in a ty).code (plus_zero_in a ty).ty n
-plus_zero_in-number x a ty n h = by (nat_lt (rank a.ty) (rank ty)) refl
+unmoved_in-number : (x : Surroundings) (sign : COp) → IsSign sign → (a : Rated) (ty : CTy) (n : ℕ) → IsNumber x a.code a.ty n → IsNumber x (unmoved_in sign a ty).code (unmoved_in sign a ty).ty n
+unmoved_in-number x sign s a ty n h = by (nat_lt (rank a.ty) (rank ty)) refl
   where
     by : (test : Bool) → nat_lt (rank a.ty) (rank ty) ≡ test
-        → IsNumber x (if test then plus_zero (cast (uint_of (c_width ty)) a.code) (calculated (c_width ty)) else plus_zero a.code a.ty).code
-        (if test then plus_zero (cast (uint_of (c_width ty)) a.code) (calculated (c_width ty)) else plus_zero a.code a.ty).ty n
+        → IsNumber x (if test then unmoved sign (cast (uint_of (c_width ty)) a.code) (calculated (c_width ty)) else unmoved sign a.code a.ty).code
+        (if test then unmoved sign (cast (uint_of (c_width ty)) a.code) (calculated (c_width ty)) else unmoved sign a.code a.ty).ty n
     by true e =
-        plus_zero-number x (cast (uint_of (c_width ty)) a.code) (calculated (c_width ty)) n
+        unmoved-number x sign s (cast (uint_of (c_width ty)) a.code) (calculated (c_width ty)) n
         (cast-number (c_width ty) (width-of_type ty) x a.code a.ty n h (in-wider a.ty ty n (grind (arith, nat_tests, e)) h.small))
-    by false e = plus_zero-number x a.code a.ty n h
+    by false e = unmoved-number x sign s a.code a.ty n h
 
-pub compared_with-number : (x : Surroundings) (a b : Rated) (n : ℕ) → IsNumber x a.code a.ty n → IsNumber x (compared_with a b).code (compared_with a b).ty n
-compared_with-number x a b n h = by (is_decided a b)
+compared_with-number : (x : Surroundings) (sign : COp) → IsSign sign → (a b : Rated) (n : ℕ) → IsNumber x a.code a.ty n → IsNumber x (compared_with sign a b).code (compared_with sign a b).ty n
+compared_with-number x sign s a b n h = by (is_decided a b)
   where
-    by : (test : Bool) → IsNumber x (if test then plus_zero_in a b.ty else beside a b.ty).code (if test then plus_zero_in a b.ty else beside a b.ty).ty n
-    by true = plus_zero_in-number x a b.ty n h
+    by : (test : Bool) → IsNumber x (if test then unmoved_in sign a b.ty else beside a b.ty).code (if test then unmoved_in sign a b.ty else beside a b.ty).ty n
+    by true = unmoved_in-number x sign s a b.ty n h
     by false = beside-number x a b.ty n h
 
 pub left_compared-number : (x : Surroundings) (a b : Rated) (n : ℕ) → IsNumber x a.code a.ty n → IsNumber x (left_compared a b).code (left_compared a b).ty n
 left_compared-number x a b n h = by (is_itself a.code b.code)
   where
-    by : (test : Bool) → IsNumber x (if test then plus_zero_in a b.ty else compared_with a b).code (if test then plus_zero_in a b.ty else compared_with a b).ty n
-    by true = plus_zero_in-number x a b.ty n h
-    by false = compared_with-number x a b n h
+    by : (test : Bool) → IsNumber x (if test then unmoved_in Add a b.ty else compared_with Add a b).code (if test then unmoved_in Add a b.ty else compared_with Add a b).ty n
+    by true = unmoved_in-number x Add tt a b.ty n h
+    by false = compared_with-number x Add tt a b n h
+
+pub right_compared-number : (x : Surroundings) (b a : Rated) (n : ℕ) → IsNumber x b.code b.ty n → IsNumber x (right_compared b a).code (right_compared b a).ty n
+right_compared-number x b a n h = compared_with-number x Sub tt b a n h
 
 -- ---- trees
 

@@ -13,7 +13,7 @@ ghost use Rattle.c_text.specs.CNodes.{expr_of};
 ghost use Rattle.c_text.specs.CTree as c;
 ghost use Rattle.c_text.specs.declared.kinds.COp.TheVariants.{Ne};
 ghost use Rattle.c_text.specs.declared.kinds.CUnary.TheVariants.{Not};
-ghost use Rattle.wf_exprs.specs.Exprs.{category_code, comparand as comparand_of, compared as compared_code, compared_with as compared_with_code, constants_compared as constants_compared_code, held_compared as held_compared_code, is_literal_zero as is_literal_zero_tree, known_if as known_if_code, left_compared as left_compared_code, lowered_cond, lowered_status, numbers_compared as numbers_compared_code, same_code, settled as settled_code, statuses_compared as statuses_compared_code, variables_compared as variables_compared_code};
+ghost use Rattle.wf_exprs.specs.Exprs.{category_code, comparand as comparand_of, compared as compared_code, constants_compared as constants_compared_code, held_compared as held_compared_code, is_literal_zero as is_literal_zero_tree, known_if as known_if_code, left_compared as left_compared_code, lowered_cond, lowered_status, numbers_compared as numbers_compared_code, right_compared as right_compared_code, same_code, settled as settled_code, statuses_compared as statuses_compared_code, variables_compared as variables_compared_code};
 ghost use Rattle.wf_exprs.specs.Grown.{Grows, HasExpr};
 ghost use Rattle.wf_exprs.specs.Making.{rated_in};
 ghost use Rattle.wf_exprs.specs.Scopes.{path_of};
@@ -28,7 +28,7 @@ use std::alloc::Global;
 use wf_ast::{Expr, ExprId, Op, Ty, Typed, io_arg, same as are_same};
 use wf_base::BaseSig;
 use wf_exprs::nodes::{is_held, is_literal, negated, two};
-use wf_exprs::rated::{compared_with, left_compared, op_of};
+use wf_exprs::rated::{left_compared, op_of, right_compared};
 use wf_exprs::{BodyNames, Path, Rated};
 use wf_text::{Category, NoMemory};
 
@@ -244,10 +244,10 @@ fn operands_compared(
     requires left { a.code.0 < length u.old.exprs }
     requires right { b.code.0 < length u.old.exprs }
     ensures grows { Grows u.old u.new }
-    ensures made { IfOk result (λ it. HasExpr u.new it.0 (compared_code (order_in (operator_kind op)) (left_compared_code (rated_in u.old a) (rated_in u.old b)).code (compared_with_code (rated_in u.old b) (rated_in u.old a)).code)) }
+    ensures made { IfOk result (λ it. HasExpr u.new it.0 (compared_code (order_in (operator_kind op)) (left_compared_code (rated_in u.old a) (rated_in u.old b)).code (right_compared_code (rated_in u.old b) (rated_in u.old a)).code)) }
 {
     let left = left_compared(alloc, u, a, b)?;
-    let right = compared_with(alloc, u, b, a)?;
+    let right = right_compared(alloc, u, b, a)?;
     compared(alloc, u, op, left.code, right.code)
 }
 

@@ -25,7 +25,7 @@ use Rattle.c_text.specs.CTree as c
 use Rattle.wf_exprs.specs.Names.{Names}
 use Rattle.wf_exprs.specs.Words.{num, uint_of, two}
 use Rattle.wf_ast.specs.Value.{same_truth}
-use Rattle.wf_exprs.specs.Exprs.{calculated, rank, Rated, rated, recast, firm, balanced, op_of, with_operand, same_op, chained, saturated, cut_off, taken, is_filled, factor, linked, converted, widened, path_code, Pair, path_pair, is_array, moved, part_pointer, part_length, place_code, bytes_code, peeked, raised, byte_at, byte_ahead, bytes_ahead, number_ahead, peek_code, asked_code, lowered, lowered_slice, lowered_end, bare, is_ones, is_short_ones, is_converted, apart, with_zero, xor_operand, pair_compared, comparand, beside, is_decided, plus_zero, plus_zero_in, compared_with, is_itself, left_compared, settled, settled_or, given, status_constant, lowered_status, same_code, is_literal, is_held, compared, is_constant, constant_number, constants_compared, held_compared, variables_compared, statuses_compared, begins_with, category_code, lowered_cond}
+use Rattle.wf_exprs.specs.Exprs.{calculated, rank, Rated, rated, recast, firm, balanced, op_of, with_operand, same_op, chained, saturated, cut_off, taken, is_filled, factor, linked, converted, widened, path_code, Pair, path_pair, is_array, moved, part_pointer, part_length, place_code, bytes_code, peeked, raised, byte_at, byte_ahead, bytes_ahead, number_ahead, peek_code, asked_code, lowered, lowered_slice, lowered_end, bare, is_ones, is_short_ones, is_converted, apart, with_zero, xor_operand, pair_compared, comparand, beside, is_decided, unmoved, unmoved_in, compared_with, is_itself, left_compared, settled, settled_or, given, status_constant, lowered_status, same_code, is_literal, is_held, compared, is_constant, constant_number, constants_compared, held_compared, variables_compared, statuses_compared, begins_with, category_code, lowered_cond}
 use Rattle.wf_lower_laws.specs.BracketLaw.{repeats, goes_on, cond_goes_on, num_within, slice_within, end_within, cond_within}
 use Rattle.wf_lower_laws.proofs.Apart.{same_number}
 use Rattle.wf_lower_laws.proofs.OpenBrackets.{ExprOpens, OperandsOpen}
@@ -539,22 +539,22 @@ module _ (names : Names) where
   by_beside : (d k : ℕ) (a : Rated) (ty : CTy) → d + 2 ≤ k → ExprBy d a.code → ExprBy k (beside a ty).code
   by_beside d k a ty l h = by_rated_if k (nat_lt (rank a.ty) (rank ty)) (widened (c_width ty) a) a (by_widened d k (c_width ty) a (omega (arith, l)) (omega (arith, l)) h) (by_more d k a.code (omega (arith, l)) h)
 
-  by_plus_zero : (d k : ℕ) (e : ExprTree) (ty : CTy) → d + 1 ≤ k → ExprBy d e → ExprBy k (plus_zero e ty).code
-  by_plus_zero d k e ty l h = by_two d k Add e (num 0) l h (by_num d 0)
+  by_unmoved : (d k : ℕ) (sign : COp) (e : ExprTree) (ty : CTy) → d + 1 ≤ k → ExprBy d e → ExprBy k (unmoved sign e ty).code
+  by_unmoved d k sign e ty l h = by_two d k sign e (num 0) l h (by_num d 0)
 
-  by_plus_zero_in : (d k : ℕ) (a : Rated) (ty : CTy) → 1 ≤ d → d + 2 ≤ k → ExprBy d a.code → ExprBy k (plus_zero_in a ty).code
-  by_plus_zero_in d k a ty m l h =
+  by_unmoved_in : (d k : ℕ) (sign : COp) (a : Rated) (ty : CTy) → 1 ≤ d → d + 2 ≤ k → ExprBy d a.code → ExprBy k (unmoved_in sign a ty).code
+  by_unmoved_in d k sign a ty m l h =
       let it : ExprTree = cast (uint_of (c_width ty)) a.code in
-      by_rated_if k (nat_lt (rank a.ty) (rank ty)) (plus_zero it (calculated (c_width ty))) (plus_zero a.code a.ty)
-      (by_plus_zero (d + 1) k it (calculated (c_width ty)) (omega (arith, l)) (by_cast d (d + 1) (uint_of (c_width ty)) a.code (omega arith) (omega (arith, m)) h))
-      (by_plus_zero d k a.code a.ty (omega (arith, l)) h)
+      by_rated_if k (nat_lt (rank a.ty) (rank ty)) (unmoved sign it (calculated (c_width ty))) (unmoved sign a.code a.ty)
+      (by_unmoved (d + 1) k sign it (calculated (c_width ty)) (omega (arith, l)) (by_cast d (d + 1) (uint_of (c_width ty)) a.code (omega arith) (omega (arith, m)) h))
+      (by_unmoved d k sign a.code a.ty (omega (arith, l)) h)
 
-  by_compared_with : (d k : ℕ) (a b : Rated) → 1 ≤ d → d + 2 ≤ k → ExprBy d a.code → ExprBy k (compared_with a b).code
-  by_compared_with d k a b m l h = by_rated_if k (is_decided a b) (plus_zero_in a b.ty) (beside a b.ty) (by_plus_zero_in d k a b.ty m l h) (by_beside d k a b.ty l h)
+  by_compared_with : (d k : ℕ) (sign : COp) (a b : Rated) → 1 ≤ d → d + 2 ≤ k → ExprBy d a.code → ExprBy k (compared_with sign a b).code
+  by_compared_with d k sign a b m l h = by_rated_if k (is_decided a b) (unmoved_in sign a b.ty) (beside a b.ty) (by_unmoved_in d k sign a b.ty m l h) (by_beside d k a b.ty l h)
 
   by_left_compared : (d k : ℕ) (a b : Rated) → 1 ≤ d → d + 2 ≤ k → ExprBy d a.code → ExprBy k (left_compared a b).code
   by_left_compared d k a b m l h =
-      by_rated_if k (is_itself a.code b.code) (plus_zero_in a b.ty) (compared_with a b) (by_plus_zero_in d k a b.ty m l h) (by_compared_with d k a b m l h)
+      by_rated_if k (is_itself a.code b.code) (unmoved_in Add a b.ty) (compared_with Add a b) (by_unmoved_in d k Add a b.ty m l h) (by_compared_with d k Add a b m l h)
 
   by_settled : (k : ℕ) (o : Option Bool) (e : ExprTree) → ExprBy k e → ExprBy k (settled_or o e)
   by_settled k None e h = h
@@ -679,7 +679,7 @@ module _ (names : Names) where
       by_settled (5 * d + 5) (settled op (comparand names a).code (comparand names b).code) _
       (by_compared (5 * (d - 1) + 8) (5 * d + 5) op _ _ (omega (arith, l))
       (by_left_compared (5 * (d - 1) + 6) (5 * (d - 1) + 8) (comparand names a) (comparand names b) (omega arith) (omega arith) (comparand_by (d - 1) a q.0))
-      (by_compared_with (5 * (d - 1) + 6) (5 * (d - 1) + 8) (comparand names b) (comparand names a) (omega arith) (omega arith) (comparand_by (d - 1) b q.1)))
+      (by_compared_with (5 * (d - 1) + 6) (5 * (d - 1) + 8) Sub (comparand names b) (comparand names a) (omega arith) (omega arith) (comparand_by (d - 1) b q.1)))
   cond_by d (same_status at sign a one b) h = by_statuses (5 * d + 5) one a b (omega arith)
   cond_by d (junction at both joined a b) h =
       let p = both_true (nat_le 1 d) (cond_within (if joined && cond_goes_on both a then d else d - 1) a && cond_within (d - 1) b) h in

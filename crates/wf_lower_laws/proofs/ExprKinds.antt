@@ -26,7 +26,7 @@ use Rattle.c_meaning.specs.CValues.{common}
 use Rattle.c_meaning.specs.CTypes.{CScope, promoted, ExprType, numbers, points_to, zero_literal, byte, as_number, arithmetic_type, sum_type, one_type, test_type, operation_type, operations_type, type_of, operand_types, cast_from, literal_type}
 use Rattle.wf_exprs.specs.Names.{Names}
 use Rattle.wf_exprs.specs.Words.{literal, num, uint_of, width_of, two}
-use Rattle.wf_exprs.specs.Exprs.{calculated, rank, Rated, rated, recast, firm, balanced, with_operand, same_op, chained, cut_off, taken, is_filled, factor, linked, converted, widened, is_held, is_array as is_whole, moved, part_pointer, part_length, io_code, place_code, end_code, bytes_code, peeked, byte_at, byte_ahead, bytes_ahead, number_ahead, peek_code, asked_code, same_code, compared, is_literal, is_constant, constant_number, constants_compared, held_compared, variables_compared, statuses_compared, begins_with, category_code, lowered, lowered_slice, lowered_end, is_ones, is_short_ones, is_converted, apart, with_zero, xor_operand, pair_compared, comparand, beside, is_decided, plus_zero, plus_zero_in, compared_with, is_itself, left_compared, settled, settled_or, lowered_status, lowered_cond}
+use Rattle.wf_exprs.specs.Exprs.{calculated, rank, Rated, rated, recast, firm, balanced, with_operand, same_op, chained, cut_off, taken, is_filled, factor, linked, converted, widened, is_held, is_array as is_whole, moved, part_pointer, part_length, io_code, place_code, end_code, bytes_code, peeked, byte_at, byte_ahead, bytes_ahead, number_ahead, peek_code, asked_code, same_code, compared, is_literal, is_constant, constant_number, constants_compared, held_compared, variables_compared, statuses_compared, begins_with, category_code, lowered, lowered_slice, lowered_end, is_ones, is_short_ones, is_converted, apart, with_zero, xor_operand, pair_compared, comparand, beside, is_decided, unmoved, unmoved_in, compared_with, is_itself, left_compared, settled, settled_or, lowered_status, lowered_cond}
 use Rattle.wf_exprs.proofs.ByteLaws.{more_bytes}
 use Rattle.wf_lower_laws.proofs.Surfaces.{same_width}
 use Rattle.wf_lower_laws.specs.KindLaw.{IsNum, IsPointer, IsText, IsBuffer, Declares, has_op, has_question, num_served, slice_served, end_served, status_served, cond_served, ExpressionsKeepKinds}
@@ -425,20 +425,20 @@ module _ (S : CScope) where
     beside_kind : (a : Rated) (ty : CTy) → IsNum S a.code → IsNum S (beside a ty).code
     beside_kind a ty h = rated_if (nat_lt (rank a.ty) (rank ty)) (widened (c_width ty) a) a (widened_kind (c_width ty) a h) h
 
-    plus_zero_kind : (e : ExprTree) (ty : CTy) → IsNum S e → IsNum S (plus_zero e ty).code
-    plus_zero_kind e ty h = two_kind Add e (num 0) h (num_kind 0)
+    unmoved_kind : (sign : COp) (e : ExprTree) (ty : CTy) → IsNum S e → IsNum S (unmoved sign e ty).code
+    unmoved_kind sign e ty h = two_kind sign e (num 0) h (num_kind 0)
 
-    plus_zero_in_kind : (a : Rated) (ty : CTy) → IsNum S a.code → IsNum S (plus_zero_in a ty).code
-    plus_zero_in_kind a ty h =
+    unmoved_in_kind : (sign : COp) (a : Rated) (ty : CTy) → IsNum S a.code → IsNum S (unmoved_in sign a ty).code
+    unmoved_in_kind sign a ty h =
         let it : ExprTree = cast (uint_of (c_width ty)) a.code in
-        rated_if (nat_lt (rank a.ty) (rank ty)) (plus_zero it (calculated (c_width ty))) (plus_zero a.code a.ty)
-        (plus_zero_kind it (calculated (c_width ty)) (cast_kind (c_width ty) a.code h)) (plus_zero_kind a.code a.ty h)
+        rated_if (nat_lt (rank a.ty) (rank ty)) (unmoved sign it (calculated (c_width ty))) (unmoved sign a.code a.ty)
+        (unmoved_kind sign it (calculated (c_width ty)) (cast_kind (c_width ty) a.code h)) (unmoved_kind sign a.code a.ty h)
 
-    compared_with_kind : (a b : Rated) → IsNum S a.code → IsNum S (compared_with a b).code
-    compared_with_kind a b h = rated_if (is_decided a b) (plus_zero_in a b.ty) (beside a b.ty) (plus_zero_in_kind a b.ty h) (beside_kind a b.ty h)
+    compared_with_kind : (sign : COp) (a b : Rated) → IsNum S a.code → IsNum S (compared_with sign a b).code
+    compared_with_kind sign a b h = rated_if (is_decided a b) (unmoved_in sign a b.ty) (beside a b.ty) (unmoved_in_kind sign a b.ty h) (beside_kind a b.ty h)
 
     left_compared_kind : (a b : Rated) → IsNum S a.code → IsNum S (left_compared a b).code
-    left_compared_kind a b h = rated_if (is_itself a.code b.code) (plus_zero_in a b.ty) (compared_with a b) (plus_zero_in_kind a b.ty h) (compared_with_kind a b h)
+    left_compared_kind a b h = rated_if (is_itself a.code b.code) (unmoved_in Add a b.ty) (compared_with Add a b) (unmoved_in_kind Add a b.ty h) (compared_with_kind Add a b h)
 
     settled_kind : (o : Option Bool) (e : ExprTree) → IsNum S e → IsNum S (settled_or o e)
     settled_kind None e h = h
@@ -471,7 +471,7 @@ module _ (S : CScope) where
         let left = comparand_kind a (both_true (is_whole_number a) (well_part x a) q.0).1 u.0 in
         let right = comparand_kind b (both_true (is_whole_number b) (well_part x b) q.1).1 u.1 in
         settled_kind (settled op (comparand names a).code (comparand names b).code) _
-        (compared_kind op _ _ (left_compared_kind (comparand names a) (comparand names b) left) (compared_with_kind (comparand names b) (comparand names a) right))
+        (compared_kind op _ _ (left_compared_kind (comparand names a) (comparand names b) left) (compared_with_kind Sub (comparand names b) (comparand names a) right))
     condition_kind (same_status at sign a one b) w s =
         let p = both_true (well_status x a) (well_status x b) w in
         let u = both_true (status_served knows a) (status_served knows b) s in
