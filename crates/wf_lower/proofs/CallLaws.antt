@@ -1,7 +1,7 @@
 -- What a block calls is called by one of its statements, and what a statement calls is told by its node.
-use Rattle.std.proofs.Common.{◌≡◌, ◌∙◌, ap, sym, subst, ℕ, zero, suc, ◌+◌, ◌<◌, ◌≤◌, Bool, true, false, not, ◌&&◌, ◌||◌, List, [], ◌∷◌, length, map, drop, Option, Some, None, nat_lt, nat_eq, unwrap_or, refl, arith}
+use Rattle.std.proofs.Common.{◌≡◌, ◌∙◌, ap, sym, subst, ℕ, ◌<◌, ◌≤◌, Bool, true, false, not, ◌&&◌, ◌||◌, List, [], ◌∷◌, length, map, Option, Some, None, nat_lt, unwrap_or, refl, arith}
 use Rattle.std.specs.Prelude.{slice_get, option_map}
-use Rattle.std.specs.List.{list_all, list_any, slice_set}
+use Rattle.std.specs.List.{list_all}
 use Rattle.std.proofs.lemmas.Bool.Decides.{nat_tests}
 use Rattle.std.proofs.lemmas.Option.{slice_get_within}
 use Rattle.wf_text.specs.declared.place.Place.{Place}
@@ -25,21 +25,10 @@ use Rattle.wf_ast.proofs.Arena.{both_true, numbered_from_zero}
 use Rattle.wf_points.proofs.StatementArena.{stmt_is}
 use Rattle.wf_lower_stmts.specs.BodyNodes.{stands, stands_at, stands_among, stands_in_arms, stands_in_else, stands_in_if}
 use Rattle.wf_lower_stmts.proofs.StandLaws.{ids_more, node_there}
-use Rattle.wf_lower.specs.Called.{AreCalled, SetsCalled, calls, has_entry, is_called, is_callee, is_set, node_calls}
+use Rattle.wf_lower.specs.Called.{AreCalled, calls, has_entry, is_called, is_callee, node_calls}
+use Rattle.wf_lower.specs.Flags.{Sets, is_set}
+use Rattle.wf_lower.proofs.FlagLaws.{or_assoc, or_false}
 use Rattle.wf_lower.proofs.Known.{made_there, methods_same}
-use Rattle.wf_lower.proofs.Walks.{dropped_at, none_left}
-
-or_false : (a : Bool) → (a || false) ≡ a
-or_false true = refl
-or_false false = refl
-
-or_true : (a : Bool) → (a || true) ≡ true
-or_true true = refl
-or_true false = refl
-
-or_assoc : (a b c : Bool) → (a || (b || c)) ≡ ((a || b) || c)
-or_assoc true b c = refl
-or_assoc false b c = refl
 
 lt_from : (m n : ℕ) → nat_lt m n ≡ true → m < n
 lt_from m n h = grind (arith, nat_tests, h)
@@ -193,55 +182,16 @@ node_called nodes typed i st h e k =
 pub body_called : (nodes : TypedNodes) → IsTyped nodes → (b : typed_code.Block) → block_below (length nodes.stmts) b ≡ true → (k : ℕ) → stands (calls k) (block_of nodes b) ≡ stands_among (stands_at nodes (calls k)) b.items
 body_called nodes typed b h k = among nodes typed.stmts_ordered k b.items h
 
--- A flag that is set.
-same_number : (n : ℕ) → nat_eq n n ≡ true
-same_number n = grind (arith, nat_tests)
-
-none_after : (n : ℕ) → nat_eq 0 (suc n) ≡ false
-none_after n = grind (arith, nat_tests)
-
-after_none : (n : ℕ) → nat_eq (suc n) 0 ≡ false
-after_none n = grind (arith, nat_tests)
-
-both_more : (i n : ℕ) → nat_eq i n ≡ nat_eq (suc i) (suc n)
-both_more i n = by (nat_eq i n) refl
-  where
-    by : (b : Bool) → nat_eq i n ≡ b → b ≡ nat_eq (suc i) (suc n)
-    by true e = grind (arith, nat_tests, e)
-    by false e = grind (arith, nat_tests, e)
-
-set_at : (i : ℕ) (flags : List Bool) (n : ℕ) → i < length flags → is_set (slice_set flags i true) n ≡ (is_set flags n || nat_eq i n)
-set_at i [] n h = absurd (omega (arith, h))
-set_at zero (flag ∷ flags) zero h = sym (ap (λ b. flag || b) (same_number 0) ∙ or_true flag)
-set_at zero (flag ∷ flags) (suc n) h = sym (ap (λ b. is_set flags n || b) (none_after n) ∙ or_false (is_set flags n))
-set_at (suc i) (flag ∷ flags) zero h = sym (ap (λ b. flag || b) (after_none i) ∙ or_false flag)
-set_at (suc i) (flag ∷ flags) (suc n) h = set_at i flags n (omega (arith, h)) ∙ ap (λ b. is_set flags n || b) (both_more i n)
-
-pub sets_one : (i : ℕ) (old new : List Bool) → i < length old → new ≡ slice_set old i true → SetsCalled (λ n. nat_eq i n) old new
-sets_one i old new h e = λ n. ap (λ flags. is_set flags n) e ∙ set_at i old n h
-
 -- What a statement calls is what its form calls, or nothing.
 module _ (nodes : TypedNodes) (s : StmtId) (st it : Stmt) (node : (n : ℕ) → stands_at nodes (calls n) s ≡ node_calls n (stands_at nodes (calls n)) st) (is : st ≡ it) where
   by_form : (n : ℕ) → stands_at nodes (calls n) s ≡ node_calls n (stands_at nodes (calls n)) it
   by_form n = node n ∙ ap (node_calls n (stands_at nodes (calls n))) is
 
-  pub sets_some : (called : ℕ → Bool) (old new : List Bool) → ((n : ℕ) → called n ≡ node_calls n (stands_at nodes (calls n)) it) → SetsCalled called old new → SetsCalled (λ n. stands_at nodes (calls n) s) old new
+  pub sets_some : (called : ℕ → Bool) (old new : List Bool) → ((n : ℕ) → called n ≡ node_calls n (stands_at nodes (calls n)) it) → Sets called old new → Sets (λ n. stands_at nodes (calls n) s) old new
   sets_some called old new same sets = λ n. sets n ∙ ap (λ b. is_set old n || b) (same n ∙ sym (by_form n))
 
-  pub sets_none : (flags : List Bool) → ((n : ℕ) → node_calls n (stands_at nodes (calls n)) it ≡ false) → SetsCalled (λ n. stands_at nodes (calls n) s) flags flags
+  pub sets_none : (flags : List Bool) → ((n : ℕ) → node_calls n (stands_at nodes (calls n)) it ≡ false) → Sets (λ n. stands_at nodes (calls n) s) flags flags
   sets_none flags none = λ n. sym (ap (λ b. is_set flags n || b) (by_form n ∙ none n) ∙ or_false (is_set flags n))
-
--- What is known of the methods so far, where those from one on are left, and of all of them.
-pub calls_more : (methods : List MethodTree) (i n : ℕ) (old new : List Bool) (m : MethodTree) (body : Block) (all : Bool) → slice_get methods i ≡ Some m → body ≡ m.body → SetsCalled (λ k. stands (calls k) body) old new
-    → (is_set old n || list_any (λ it. stands (calls n) it.body) (drop i methods)) ≡ all → (is_set new n || list_any (λ it. stands (calls n) it.body) (drop (i + 1) methods)) ≡ all
-calls_more methods i n old new m body all is same sets so_far =
-    let rest = list_any (λ it. stands (calls n) it.body) (drop (i + 1) methods) in
-    ap (λ x. x || rest) (sets n ∙ ap (λ x. is_set old n || stands (calls n) x) same) ∙ sym (or_assoc (is_set old n) (stands (calls n) m.body) rest)
-    ∙ ap (λ ms. is_set old n || list_any (λ it. stands (calls n) it.body) ms) (sym (dropped_at methods i m is)) ∙ so_far
-
-pub calls_end : (methods : List MethodTree) (i n : ℕ) (flags : List Bool) (all : Bool) → length methods ≤ i → (is_set flags n || list_any (λ it. stands (calls n) it.body) (drop i methods)) ≡ all → is_set flags n ≡ all
-calls_end methods i n flags all past so_far =
-    sym (or_false (is_set flags n)) ∙ ap (λ ms. is_set flags n || list_any (λ it. stands (calls n) it.body) ms) (sym (none_left methods i past)) ∙ so_far
 
 -- A method has an entry by its declaration and its flag.
 pub flag_there : (nodes : TypedNodes) → IsTyped nodes → (flags : List Bool) → AreCalled (package_of nodes) flags → (n : ℕ) → n < length nodes.methods → n < length flags

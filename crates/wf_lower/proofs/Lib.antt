@@ -1,7 +1,9 @@
 pub mod BodyLaws
 pub mod CallLaws
+pub mod CoroutineLaws
 pub mod EntryLaws
 pub mod FieldLaws
+pub mod FlagLaws
 pub mod Functions
 pub mod InitLaws
 pub mod Kept

@@ -1,5 +1,5 @@
 -- Which methods are called by a method of their package, and which have an entry.
-use Rattle.std.specs.Prelude.{◌≡◌, ℕ, Bool, false, not, ◌||◌, List, length, slice_get, unwrap_or, nat_eq}
+use Rattle.std.specs.Prelude.{◌≡◌, ℕ, Bool, false, not, ◌||◌, List, length, nat_eq}
 use Rattle.std.specs.List.{list_any}
 use Rattle.wf_ast.specs.declared.numbers.StmtId.{StmtId}
 use Rattle.wf_ast.specs.declared.typed_code.Callee.{Callee}
@@ -10,6 +10,7 @@ use Rattle.wf_ast.specs.TypedPackage.{MethodTree, PackageTree}
 use Rattle.wf_ast.specs.TypedTree.{Simple, invoke}
 use Rattle.wf_ast.specs.WellTyped.{number_of}
 use Rattle.wf_lower_stmts.specs.BodyNodes.{stands, stands_among, stands_in_if}
+use Rattle.wf_lower.specs.Flags.{is_set}
 
 -- The statement calls the method with this number.
 abbrev pub calls : (number : ℕ) → Simple → Bool
@@ -35,13 +36,6 @@ node_calls n look (stmts.If arms otherwise) = stands_in_if look arms otherwise
 node_calls n look (stmts.While head body) = stands_among look body.items
 node_calls n look (stmts.Call target keep callee args) = is_callee n callee
 node_calls n look st = false
-
--- Flags of methods, by their numbers. Those are set that were, and those of the methods that are called.
-abbrev pub is_set : (flags : List Bool) → (number : ℕ) → Bool
-is_set flags n = unwrap_or (slice_get flags n) false
-
-abbrev pub SetsCalled : (called : ℕ → Bool) → (old new : List Bool) → Type 0
-SetsCalled called old new = (n : ℕ) → is_set new n ≡ (is_set old n || called n)
 
 -- The flags are those of just the methods that are called.
 pub record AreCalled (p : PackageTree) (flags : List Bool) : Type 0 where

@@ -1,7 +1,9 @@
 pub mod Agreement
 pub mod Bodies
 pub mod Called
+pub mod Coroutines
 pub mod DemoText
+pub mod Flags
 pub mod Locals
 pub mod Made
 pub mod Methods

@@ -1,13 +1,15 @@
 // Which methods are called by a method of their package, found in one walk over all bodies.
 
-ghost use Rattle.std.specs.Prelude.{◌≡◌, ◌<◌, ◌&&◌, ℕ, length, nat_eq, nat_lt, replicate, false, IsTrue, IfOk};
+ghost use Rattle.std.specs.Prelude.{◌≡◌, ◌<◌, ◌&&◌, ℕ, length, nat_lt, IsTrue, IfOk};
 ghost use Rattle.std.specs.List.{list_all};
 ghost use Rattle.wf_ast.specs.TypedInvariant.{IsTyped, block_below, callee_exists, is_expr, optional_block_below, stmt_below};
 ghost use Rattle.wf_ast.specs.TypedPackage.{package_of};
 ghost use Rattle.wf_ast.specs.TypedTrees.{block_of};
 ghost use Rattle.wf_lower_stmts.specs.BodyNodes.{stands, stands_among, stands_at, stands_in_arms, stands_in_else, stands_in_if as among_if};
-ghost use Rattle.wf_lower.specs.Called.{AreCalled, SetsCalled, calls, is_callee, node_calls};
+ghost use Rattle.wf_lower.specs.Called.{AreCalled, calls, is_callee, node_calls};
+ghost use Rattle.wf_lower.specs.Flags.{Sets};
 
+use crate::flags::{no_flags, set};
 use std::alloc::Global;
 use wf_ast::{Arm, Block, Callee, Stmt, StmtId, Typed};
 use wf_text::{MethodId, NoMemory};
@@ -17,18 +19,11 @@ pub(crate) fn called_methods(alloc: Global, t: &Typed) -> Result<Vec<bool>, NoMe
     requires { IsTyped t.now }
     ensures { IfOk result (λ called. AreCalled (package_of t.now) called.items) }
 {
-    let mut called = no_flags(alloc, t)?;
+    let mut called = no_flags(alloc, t.methods())?;
     for m in 0..t.methods() {
         mark_body(t, &mut called, t.body(MethodId(m)));
     }
     Ok(called)
-}
-
-/// None of them is set.
-fn no_flags(alloc: Global, t: &Typed) -> Result<Vec<bool>, NoMemory>
-    ensures { IfOk result (λ flags. flags.items ≡ replicate (length t.now.methods) false) }
-{
-    Ok(vec![in alloc; false; t.methods() as usize]?)
 }
 
 /// Sets the flags of the methods that a body calls.
@@ -36,7 +31,7 @@ fn mark_body(t: &Typed, called: &mut Vec<bool>, body: &Block)
     requires typed { IsTyped t.now }
     requires known { IsTrue (block_below (length t.now.stmts) body.now) }
     requires sized { length called.old.items ≡ length t.now.methods }
-    ensures marks { SetsCalled (λ n. stands (calls n) (block_of t.now body.now)) called.old.items called.new.items }
+    ensures marks { Sets (λ n. stands (calls n) (block_of t.now body.now)) called.old.items called.new.items }
     ensures sized { length called.new.items ≡ length called.old.items }
 {
     mark_among(t, called, body.items.as_slice());
@@ -47,7 +42,7 @@ fn mark_among(t: &Typed, called: &mut Vec<bool>, items: &[StmtId])
     requires typed { IsTyped t.now }
     requires known { IsTrue (list_all (λ s. nat_lt s.0 (length t.now.stmts)) items.now) }
     requires sized { length called.old.items ≡ length t.now.methods }
-    ensures marks { SetsCalled (λ n. stands_among (stands_at t.now (calls n)) items.now) called.old.items called.new.items }
+    ensures marks { Sets (λ n. stands_among (stands_at t.now (calls n)) items.now) called.old.items called.new.items }
     ensures sized { length called.new.items ≡ length called.old.items }
 {
     for s in items {
@@ -71,7 +66,7 @@ fn mark_at(t: &Typed, called: &mut Vec<bool>, s: StmtId)
     requires typed { IsTyped t.now }
     requires known { s.0 < length t.now.stmts }
     requires sized { length called.old.items ≡ length t.now.methods }
-    ensures marks { SetsCalled (λ n. stands_at t.now (calls n) s) called.old.items called.new.items }
+    ensures marks { Sets (λ n. stands_at t.now (calls n) s) called.old.items called.new.items }
     ensures sized { length called.new.items ≡ length called.old.items }
 {
     match node(t, s) {
@@ -94,7 +89,7 @@ fn mark_block(t: &Typed, called: &mut Vec<bool>, s: StmtId, block: &Block)
     requires known { s.0 < length t.now.stmts }
     requires below { IsTrue (block_below s.0 block.now) }
     requires sized { length called.old.items ≡ length t.now.methods }
-    ensures marks { SetsCalled (λ n. stands_among (stands_at t.now (calls n)) block.now.items) called.old.items called.new.items }
+    ensures marks { Sets (λ n. stands_among (stands_at t.now (calls n)) block.now.items) called.old.items called.new.items }
     ensures sized { length called.new.items ≡ length called.old.items }
 {
     for inner in block.items.as_slice() {
@@ -110,7 +105,7 @@ fn mark_if(t: &Typed, called: &mut Vec<bool>, s: StmtId, arms: &[Arm], otherwise
     requires arms { IsTrue (list_all (λ a. is_expr t.now a.cond && block_below s.0 a.body) arms.now) }
     requires otherwise { IsTrue (optional_block_below s.0 otherwise.now) }
     requires sized { length called.old.items ≡ length t.now.methods }
-    ensures marks { SetsCalled (λ n. among_if (stands_at t.now (calls n)) arms.now otherwise.now) called.old.items called.new.items }
+    ensures marks { Sets (λ n. among_if (stands_at t.now (calls n)) arms.now otherwise.now) called.old.items called.new.items }
     ensures sized { length called.new.items ≡ length called.old.items }
 {
     if arms.is_empty() {
@@ -126,7 +121,7 @@ fn mark_arms(t: &Typed, called: &mut Vec<bool>, s: StmtId, arms: &[Arm])
     requires known { s.0 < length t.now.stmts }
     requires below { IsTrue (list_all (λ a. is_expr t.now a.cond && block_below s.0 a.body) arms.now) }
     requires sized { length called.old.items ≡ length t.now.methods }
-    ensures marks { SetsCalled (λ n. stands_in_arms (stands_at t.now (calls n)) arms.now) called.old.items called.new.items }
+    ensures marks { Sets (λ n. stands_in_arms (stands_at t.now (calls n)) arms.now) called.old.items called.new.items }
     ensures sized { length called.new.items ≡ length called.old.items }
 {
     for arm in arms {
@@ -140,7 +135,7 @@ fn mark_else(t: &Typed, called: &mut Vec<bool>, s: StmtId, otherwise: &Option<Bl
     requires known { s.0 < length t.now.stmts }
     requires below { IsTrue (optional_block_below s.0 otherwise.now) }
     requires sized { length called.old.items ≡ length t.now.methods }
-    ensures marks { SetsCalled (λ n. stands_in_else (stands_at t.now (calls n)) otherwise.now) called.old.items called.new.items }
+    ensures marks { Sets (λ n. stands_in_else (stands_at t.now (calls n)) otherwise.now) called.old.items called.new.items }
     ensures sized { length called.new.items ≡ length called.old.items }
 {
     match otherwise {
@@ -153,21 +148,12 @@ fn mark_else(t: &Typed, called: &mut Vec<bool>, s: StmtId, otherwise: &Option<Bl
 fn mark_callee(t: &Typed, called: &mut Vec<bool>, callee: Callee)
     requires there { IsTrue (callee_exists t.now callee) }
     requires sized { length called.old.items ≡ length t.now.methods }
-    ensures marks { SetsCalled (λ n. is_callee n callee) called.old.items called.new.items }
+    ensures marks { Sets (λ n. is_callee n callee) called.old.items called.new.items }
     ensures sized { length called.new.items ≡ length called.old.items }
 {
     match callee {
-        Callee::Own(m) => set(called, m),
-        Callee::Sub { field: _, method } => set(called, method),
+        Callee::Own(m) => set(called, m.0),
+        Callee::Sub { field: _, method } => set(called, method.0),
         Callee::Base { .. } => {}
     }
-}
-
-/// Sets the flag of a method.
-fn set(called: &mut Vec<bool>, m: MethodId)
-    requires { m.0 < length called.old.items }
-    ensures marks { SetsCalled (λ n. nat_eq m.0 n) called.old.items called.new.items }
-    ensures sized { length called.new.items ≡ length called.old.items }
-{
-    called[m.0 as usize] = true;
 }

@@ -4,9 +4,11 @@
 pub mod agreement;
 mod bodies;
 mod called;
+mod coroutines;
 mod declaring;
 mod entries;
 pub mod examples;
+mod flags;
 mod initializing;
 mod locals;
 mod lowering;

@@ -14,6 +14,7 @@ ghost use Rattle.wf_exprs_nodes.specs.Marks.{Marks};
 ghost use Rattle.wf_lower_stmts.specs.Forms.{form_of};
 ghost use Rattle.wf_lower.specs.Bodies.{body_function as body_function_of, functions_of};
 ghost use Rattle.wf_lower.specs.Called.{AreCalled};
+ghost use Rattle.wf_lower.specs.Coroutines.{HaveCoroutines};
 ghost use Rattle.wf_lower.specs.Made.{AddsFunctions, AreRead, FitFunctions, FitsFunction, HasFunctionTrees, IsReady, IsSpelt, item_trees};
 ghost use Rattle.wf_lower.specs.Shared.{HasOwnNames, HasShared};
 ghost use Rattle.wf_lower.specs.Parts.{entry_functions, items_before, saturating_widths};
@@ -21,6 +22,7 @@ ghost use Rattle.wf_lower.specs.Unit.{all_functions as all_functions_of, initial
 
 use crate::bodies::body_function;
 use crate::called::called_methods;
+use crate::coroutines::structs_with_coroutines;
 use crate::entries::entry_function;
 use crate::initializing::initialize_function;
 use crate::shared::{OwnNames, Shared, put_shared};
@@ -206,6 +208,7 @@ fn add_buffer(p: &Source, u: &mut Unit) -> Result<(), NoMemory>
 
 fn add_struct(p: &Source, u: &mut Unit, s: u32) -> Result<(), NoMemory>
     requires ready { IsReady p.now.t.now p.now.points.now p.now.started.now }
+    requires coroutines { HaveCoroutines (package_of p.now.t.now) p.now.coroutines.now }
     requires known { s < length p.now.t.now.structs }
     ensures { OnOk result (GrowsBy (struct_items (package_of p.now.t.now) (s ∷ [])) u.old u.new) }
 {
@@ -215,7 +218,8 @@ fn add_struct(p: &Source, u: &mut Unit, s: u32) -> Result<(), NoMemory>
 }
 
 fn add_structs(p: &Source, u: &mut Unit) -> Result<(), NoMemory>
-    requires { IsReady p.now.t.now p.now.points.now p.now.started.now }
+    requires ready { IsReady p.now.t.now p.now.points.now p.now.started.now }
+    requires coroutines { HaveCoroutines (package_of p.now.t.now) p.now.coroutines.now }
     ensures { OnOk result (GrowsBy (struct_items (package_of p.now.t.now) (package_of p.now.t.now).struct_order) u.old u.new) }
 {
     let order = p.t.struct_order();
@@ -309,7 +313,8 @@ fn add_functions(u: &mut Unit, functions: Vec<CItem>) -> Result<(), NoMemory>
 
 /// The items before the functions, where these read these names.
 fn add_before(p: &Source, u: &mut Unit, read: &ReadNames) -> Result<(), NoMemory>
-    requires { IsReady p.now.t.now p.now.points.now p.now.started.now }
+    requires ready { IsReady p.now.t.now p.now.points.now p.now.started.now }
+    requires coroutines { HaveCoroutines (package_of p.now.t.now) p.now.coroutines.now }
     ensures { OnOk result ((functions : List ItemTree) → AreRead functions u.old.names read.now → GrowsBy (items_before (package_of p.now.t.now) functions) u.old u.new) }
 {
     add_buffer(p, u)?;
@@ -322,6 +327,7 @@ fn add_before(p: &Source, u: &mut Unit, read: &ReadNames) -> Result<(), NoMemory
 fn add_items(p: &Source, u: &mut Unit) -> Result<(), NoMemory>
     requires ready { IsReady p.now.t.now p.now.points.now p.now.started.now }
     requires called { AreCalled (package_of p.now.t.now) p.now.called.now }
+    requires coroutines { HaveCoroutines (package_of p.now.t.now) p.now.coroutines.now }
     ensures { OnOk result (GrowsBy (lowered_unit (package_of p.now.t.now)) u.old u.new) }
 {
     u.is_sound();
@@ -340,6 +346,7 @@ pub fn lower(alloc: Global, a: &Accepted) -> Result<Unit, NoMemory>
     let t = a.typed();
     let started = started_by_method(alloc, t)?;
     let called = called_methods(alloc, t)?;
+    let coroutines = structs_with_coroutines(alloc, t)?;
     let mut u = Unit::new(alloc);
     // A statement of a coroutine often becomes about a dozen of C's, with not as many expressions.
     let stmts = statements(t);
@@ -350,6 +357,7 @@ pub fn lower(alloc: Global, a: &Accepted) -> Result<Unit, NoMemory>
         points: a.points(),
         started: started.as_slice(),
         called: called.as_slice(),
+        coroutines: coroutines.as_slice(),
     };
     add_items(&p, &mut u)?;
     Ok(u)

@@ -5,9 +5,10 @@ ghost use Rattle.wf_ast.specs.TypedInvariant.{IsTyped};
 ghost use Rattle.wf_ast.specs.TypedPackage.{MethodTree, package_of};
 ghost use Rattle.wf_lower_stmts.specs.BodyNodes.{started_of};
 ghost use Rattle.wf_lower.specs.Called.{AreCalled, has_entry as has_entry_of};
+ghost use Rattle.wf_lower.specs.Coroutines.{HaveCoroutines, has_coroutine as has_coroutine_of};
 
 use std::alloc::Global;
-use wf_ast::{Sequence, Typed};
+use wf_ast::{Sequence, StructId, Typed};
 use wf_lower_stmts::walks::{StartedNumbers, find_started};
 use wf_points::table::Points;
 use wf_text::{MethodId, NoMemory};
@@ -22,6 +23,8 @@ pub(crate) struct Source<'a> {
     pub(crate) started: &'a [StartedNumbers],
     /// Whether a method of the package calls it, of each method.
     pub(crate) called: &'a [bool],
+    /// Whether it has a coroutine, of each struct.
+    pub(crate) coroutines: &'a [bool],
 }
 
 impl<'a> Source<'a> {
@@ -41,6 +44,15 @@ impl<'a> Source<'a> {
         ensures { (method : MethodTree) → slice_get (package_of self.now.t.now).methods m.0 ≡ Some method → result ≡ has_entry_of (package_of self.now.t.now) m.0 method }
     {
         self.t.method(m).public || !self.called[m.0 as usize]
+    }
+
+    /// Whether a struct has a coroutine.
+    pub(crate) fn has_coroutine(&self, s: StructId) -> bool
+        requires coroutines { HaveCoroutines (package_of self.now.t.now) self.now.coroutines.now }
+        requires known { s.0 < length self.now.t.now.structs }
+        ensures { result ≡ has_coroutine_of (package_of self.now.t.now) s.0 }
+    {
+        self.coroutines[s.0 as usize]
     }
 }
 

@@ -18,15 +18,16 @@ ghost use Rattle.wf_exprs.specs.Names.{point_field as point_name, struct_type as
 ghost use Rattle.wf_exprs.specs.Scopes.{is_named};
 ghost use Rattle.wf_points.specs.PointNumbers.{locals_kept};
 ghost use Rattle.wf_lower_stmts.specs.BodyNodes.{HasWords};
+ghost use Rattle.wf_lower.specs.Coroutines.{HaveCoroutines};
 ghost use Rattle.wf_lower.specs.Made.{AddsFields, HasFieldTree, HasFieldTrees, HasItemTree, IsPlain, IsReady};
 ghost use Rattle.wf_lower.specs.Structs.{buffer_fields as buffer_fields_of, kept_field, kept_of, method_fields, number_fields, typed_field as typed_field_of};
 ghost use Rattle.wf_lower.specs.Unit.{field as field_of, io_buffer_item, kept_fields, kept_type as kept_type_of, methods_fields, source_field as source_field_of, source_fields, struct_fields as struct_fields_of};
 
+use crate::coroutines::is_coroutine;
 use crate::source::Source;
 use c_text::{CField, CFieldType, CItem, CList, CNameId, CType, CUint, Unit};
 use std::alloc::Global;
 use wf_ast::{LocalId, Method, StructId, Ty, Typed, Var};
-use wf_base::Mark;
 use wf_exprs::names::{put_name, put_spelt};
 use wf_exprs::nodes::{literal, uint_of};
 use wf_lower_stmts::spelling::{point_field, saved_field, struct_type};
@@ -329,12 +330,6 @@ fn add_coroutine(
     add_started(u, name, p.started(m), fields)
 }
 
-fn is_coroutine(mark: Mark) -> bool
-    ensures { result ≡ is_marked_coroutine mark }
-{
-    matches!(mark, Mark::Coroutine)
-}
-
 /// Whether a method is a coroutine of the struct `s`.
 fn keeps_in(m: &Method, s: StructId) -> bool
     ensures { result ≡ (nat_eq m.now.of.0 s.0 && is_marked_coroutine m.now.mark) }
@@ -362,7 +357,7 @@ fn add_method(
     }
 }
 
-/// Adds what the coroutines of a struct keep.
+/// Adds what the methods of a package keep in the struct `s`.
 fn add_methods(
     p: &Source,
     u: &mut Unit,
@@ -379,6 +374,26 @@ fn add_methods(
     Ok(())
 }
 
+/// Adds what the coroutines of a struct keep. Where it has none, no method is looked at.
+fn add_coroutines(
+    p: &Source,
+    u: &mut Unit,
+    s: StructId,
+    fields: &mut CList<CField>,
+) -> Result<(), NoMemory>
+    requires ready { IsReady p.now.t.now p.now.points.now p.now.started.now }
+    requires coroutines { HaveCoroutines (package_of p.now.t.now) p.now.coroutines.now }
+    requires known { s.0 < length p.now.t.now.structs }
+    ensures grows { Grows u.old u.new }
+    ensures made { OnOk result (AddsFields u.old u.new fields.old fields.new (methods_fields s.0 (package_of p.now.t.now).methods)) }
+{
+    if p.has_coroutine(s) {
+        add_methods(p, u, s, fields)
+    } else {
+        Ok(())
+    }
+}
+
 /// Adds whether an object is ready, and which coroutine is active.
 #[tactic(auto, using(wf_exprs::proofs::Growing::grows_on), unfolding(c_text::specs::CSpelling::is_reserved))]
 fn add_life(u: &mut Unit, fields: &mut CList<CField>) -> Result<(), NoMemory>
@@ -392,6 +407,7 @@ fn add_life(u: &mut Unit, fields: &mut CList<CField>) -> Result<(), NoMemory>
 /// The fields of a struct.
 fn struct_fields(p: &Source, u: &mut Unit, s: StructId) -> Result<CList<CField>, NoMemory>
     requires ready { IsReady p.now.t.now p.now.points.now p.now.started.now }
+    requires coroutines { HaveCoroutines (package_of p.now.t.now) p.now.coroutines.now }
     requires known { s.0 < length p.now.t.now.structs }
     ensures grows { Grows u.old u.new }
     ensures made { IfOk result (λ list. HasFieldTrees u.new list (struct_fields_of (package_of p.now.t.now) s.0)) }
@@ -399,13 +415,14 @@ fn struct_fields(p: &Source, u: &mut Unit, s: StructId) -> Result<CList<CField>,
     let mut fields = CList::new(p.alloc);
     add_life(u, &mut fields)?;
     add_all_source(p.t, u, p.t.structure(s).fields.as_slice(), &mut fields)?;
-    add_methods(p, u, s, &mut fields)?;
+    add_coroutines(p, u, s, &mut fields)?;
     Ok(fields)
 }
 
 /// A struct.
 pub(crate) fn struct_item(p: &Source, u: &mut Unit, s: StructId) -> Result<CItem, NoMemory>
     requires ready { IsReady p.now.t.now p.now.points.now p.now.started.now }
+    requires coroutines { HaveCoroutines (package_of p.now.t.now) p.now.coroutines.now }
     requires known { s.0 < length p.now.t.now.structs }
     ensures grows { Grows u.old u.new }
     ensures made { IfOk result (λ it. HasItemTree u.new it (c.struct_item (struct_fields_of (package_of p.now.t.now) s.0) (type_name (package_of p.now.t.now) s.0))) }

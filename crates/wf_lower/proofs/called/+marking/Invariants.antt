@@ -1,6 +1,7 @@
 use Rattle.std.proofs.Common.{◌≡◌, ◌+◌, ◌*◌, ◌||◌, ℕ, drop, length}
 use Rattle.wf_lower_stmts.specs.BodyNodes.{stands_at, stands_among, stands_in_arms}
-use Rattle.wf_lower.specs.Called.{calls, is_set}
+use Rattle.wf_lower.specs.Called.{calls}
+use Rattle.wf_lower.specs.Flags.{is_set}
 use Rattle.wf_lower.proofs.called.+marking.Given as goal
 
 abbrev pub decreases-mark_at : goal.decreases-mark_at

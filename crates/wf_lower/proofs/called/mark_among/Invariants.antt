@@ -1,6 +1,7 @@
 use Rattle.std.proofs.Common.{◌≡◌, ◌||◌, ℕ, drop, length}
 use Rattle.wf_lower_stmts.specs.BodyNodes.{stands_at, stands_among}
-use Rattle.wf_lower.specs.Called.{calls, is_set}
+use Rattle.wf_lower.specs.Called.{calls}
+use Rattle.wf_lower.specs.Flags.{is_set}
 use Rattle.wf_lower.proofs.called.mark_among.Given as goal
 
 -- A flag is set, or a statement that is left calls the method, where it was set or one of all calls the method.

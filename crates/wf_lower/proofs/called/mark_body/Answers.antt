@@ -1,6 +1,7 @@
 use Rattle.std.proofs.Common.{◌∙◌, ◌||◌, ap, sym}
 use Rattle.wf_lower_stmts.specs.BodyNodes.{stands_among, stands_at}
-use Rattle.wf_lower.specs.Called.{calls, is_set}
+use Rattle.wf_lower.specs.Called.{calls}
+use Rattle.wf_lower.specs.Flags.{is_set}
 use Rattle.wf_lower.proofs.CallLaws.{body_called}
 use Rattle.wf_lower.proofs.called.mark_body.Goals as goal
 

@@ -10,7 +10,7 @@ pub loop-i-init : goal.loop-i-init
 loop-i-init c = record { added = []; grows = by_same _; left = refl }
 
 pub add_struct-requires-clause-known : goal.add_struct-requires-clause-known
-add_struct-requires-clause-known c = struct_known c.args.p.now.t.now c.requires.typed c.struct_order-order.result.now c.loop-i.i _ c.struct_order-order.ensures c.loop-i-test.true
+add_struct-requires-clause-known c = struct_known c.args.p.now.t.now c.requires.ready.typed c.struct_order-order.result.now c.loop-i.i _ c.struct_order-order.ensures c.loop-i-test.true
 
 pub loop-i-preserved : goal.loop-i-preserved
 loop-i-preserved c =

@@ -20,11 +20,11 @@ add_all_source-requires-clause-named c = ap (are_named c.args.p.now.t.now) c.as_
 pub add_all_source-requires-clause-held : goal.add_all_source-requires-clause-held
 add_all_source-requires-clause-held c = ap (list_all (λ (x : Var). may_be_field (package_of c.args.p.now.t.now) x.ty)) c.as_slice.ensures ∙ fields_held c.args.p.now.t.now c.requires.ready.typed c.args.s.0 c.structure.result.now c.structure.ensures
 
-pub returns-in_err-add_methods-clause-grows : goal.returns-in_err-add_methods-clause-grows
-returns-in_err-add_methods-clause-grows c = grows_on (grows_on c.add_life.ensures.grows c.add_all_source.ensures.grows) c.add_methods.ensures.grows
+pub returns-in_err-add_coroutines-clause-grows : goal.returns-in_err-add_coroutines-clause-grows
+returns-in_err-add_coroutines-clause-grows c = grows_on (grows_on c.add_life.ensures.grows c.add_all_source.ensures.grows) c.add_coroutines.ensures.grows
 
 pub returns-clause-grows : goal.returns-clause-grows
-returns-clause-grows c = grows_on (grows_on c.add_life.ensures.grows c.add_all_source.ensures.grows) c.add_methods.ensures.grows
+returns-clause-grows c = grows_on (grows_on c.add_life.ensures.grows c.add_all_source.ensures.grows) c.add_coroutines.ensures.grows
 
 pub returns-clause-made : goal.returns-clause-made
 returns-clause-made c =
@@ -32,5 +32,5 @@ returns-clause-made c =
     let p = package_of nodes in
     let P : List CField → Type 0 = λ fs. HasFieldTrees c.args.u.now fs [] in
     let none : HasFieldTrees c.args.u.now c.new-fields.result [] = subst P (sym c.new-fields.ensures) (record { there = tt; are = refl }) in
-    let all = c.in_ok-add_methods.ensures.made _ (c.in_ok-add_all_source.ensures.made _ (c.in_ok-add_life.ensures.made [] none)) in
+    let all = c.in_ok-add_coroutines.ensures.made _ (c.in_ok-add_all_source.ensures.made _ (c.in_ok-add_life.ensures.made [] none)) in
     fields_as (ap (λ xs. field (uint U8) (codes "life") ∷ field (uint U32) (codes "active") ∷ source_fields p xs ++ methods_fields c.args.s.0 p.methods) (ap (map (variable_of nodes)) c.as_slice.ensures ∙ sym (fields_are nodes c.args.s.0 c.structure.result.now c.structure.ensures))) all
