@@ -47,7 +47,6 @@ FURTHER_BUILDS = [["gcc", "-O2"], ["gcc", "-O3"], ["clang", "-O2"]]
 # What compilers may say of random packages, and what is true of these then. Bounds don't look at what never runs: what stands under a
 # comparison that is never met, or after a statement that never goes on.
 TRUE_REMARKS = {
-    "tautological-overlap-compare": "a variable can't be equal to two constants, or is unequal to one of them",
     "array-bounds": "an index past an array never runs",
     "div-by-zero": "a division by 0 never runs",
     "shift-count-overflow": "a shift too far never runs",

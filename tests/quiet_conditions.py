@@ -4,7 +4,8 @@
 usage: quiet_conditions.py PROGRAM [COUNT [SEED]]    2,000 conditions with the seed 1 are the default
 Conditions compare numbers of all widths, made by casts, all operators of arithmetic and constants about which compilers know something:
 numbers that are always 0, masks, numbers that are narrower than they seem, and pairs that are alike but for the order of operands,
-the nesting of chains and casts. Two are joined now and then. Numbers with an or are stored in cells of 8 and 16 bits. Each package has
+the nesting of chains and casts. Two are joined now and then, and two comparisons of one number that is held with constants near to one
+another. Numbers with an or are stored in cells of 8 and 16 bits. Each package has
 some of them, and its text is compiled by gcc, clang and tcc at -O0, every tenth at -O2 and -O3 too. A compiler that isn't there is
 passed over. What a compiler says is printed with its line, but for complements and for masks that leave nothing together (KNOWN, see docs/LOWERING.md),
 which are counted.
@@ -98,11 +99,23 @@ class Maker:
             right = self.number(bits, self.choice([0, 1, 2]))
         return f" {self.choice(ORDERS)} ".join(written(it) for it in ((left, right) if self.random() < 0.6 else (right, left)))
 
+    def limits(self):
+        """Two or three comparisons of one number with constants: often they exclude each other, or one of them always holds."""
+        bits = self.choice(list(HELD))
+        held, near = self.choice(HELD[bits]), self.constant(bits)
+        constants = [it for it in (near - 1, near, near + 1, self.constant(bits)) if 0 <= it < 2 ** bits]
+        pairs = [(held, self.choice(constants)) for _ in range(self.choice([2, 2, 3]))]
+        parts = [f" {self.choice(ORDERS)} ".join(map(str, it if self.random() < 0.6 else it[::-1])) for it in pairs]
+        return f" {self.choice(['and', 'or'])} ".join(f"({it})" if self.random() < 0.85 else f"(not ({it}))" for it in parts)
+
     def condition(self):
-        """A comparison; of two no compiler may say that one decides the other, so one stands within `not`."""
-        if self.random() < 0.8:
+        """A comparison, limits of one number, or two that are joined."""
+        drawn = self.random()
+        if drawn < 0.6:
             return self.comparison()
-        return f"({self.comparison()}) {self.choice(['and', 'or'])} (not ({self.comparison()}))"
+        if drawn < 0.8:
+            return self.limits()
+        return f"({self.comparison()}) {self.choice(['and', 'or'])} ({self.comparison()})"
 
     def stored(self):
         """A statement that stores a number with an or."""

@@ -536,12 +536,104 @@ category_code Note e = begins_with 64 e
 category_code Suspension e = begins_with 36 e
 category_code Fault e = begins_with 35 e
 
+-- clang says of two comparisons of one number with constants that they decide what joins them, as in `((c < 5) || (c > 3))`, where they
+-- are the first two operands of an operation. It looks at comparisons alone: so the first one is negated twice there.
+--
+-- A comparison with a constant, of any number; and whether it is met by all numbers that are great enough.
+abbrev pub meets : COp → (n bound : ℕ) → Bool
+meets Lt n bound = nat_lt n bound
+meets Le n bound = nat_le n bound
+meets Gt n bound = nat_lt bound n
+meets Ge n bound = nat_le bound n
+meets Eq n bound = nat_eq n bound
+meets Ne n bound = not (nat_eq n bound)
+meets op n bound = false
+
+abbrev pub is_open : COp → Bool
+is_open Gt = true
+is_open Ge = true
+is_open Ne = true
+is_open op = false
+
+-- Two exclude each other where no number meets both: neither one of the two constants, nor the number below one of them, nor any number
+-- above both.
+abbrev pub meets_both : (op : COp) → (bound : ℕ) → (other : COp) → (limit n : ℕ) → Bool
+meets_both op bound other limit n = meets op n bound && meets other n limit
+
+abbrev pub excludes : (op : COp) → (bound : ℕ) → (other : COp) → (limit : ℕ) → Bool
+excludes op bound other limit =
+    not ((is_open op && is_open other)
+    || ((meets_both op bound other limit bound || meets_both op bound other limit (bound - 1))
+    || (meets_both op bound other limit limit || meets_both op bound other limit (limit - 1))))
+
+-- `and` is never met where its operands exclude each other, and `or` always where what is not met does.
+abbrev pub opposite : COp → COp
+opposite Lt = Ge
+opposite Le = Gt
+opposite Gt = Le
+opposite Ge = Lt
+opposite Eq = Ne
+opposite Ne = Eq
+opposite op = op
+
+abbrev pub asked_of : (joint : COp) → COp → COp
+asked_of Either op = opposite op
+asked_of joint op = op
+
+-- A comparison of what is held with a constant, read from what is held.
+abbrev pub is_order : COp → Bool
+is_order Lt = true
+is_order Le = true
+is_order Gt = true
+is_order Ge = true
+is_order Eq = true
+is_order Ne = true
+is_order op = false
+
+abbrev pub turned : COp → COp
+turned Lt = Gt
+turned Le = Ge
+turned Gt = Lt
+turned Ge = Le
+turned op = op
+
+abbrev pub is_bounded : COp → (a b : ExprTree) → Bool
+is_bounded op a b = is_order op && (if is_literal a then is_held b && not (is_literal b) else is_held a && is_literal b)
+
+abbrev pub bounded : (a b : ExprTree) → ExprTree
+bounded a b = if is_literal a then b else a
+
+abbrev pub order_of : COp → (a : ExprTree) → COp
+order_of op a = if is_literal a then turned op else op
+
+abbrev pub constant_of : ExprTree → ℕ
+constant_of (c.number n) = literal_value n
+constant_of e = 0
+
+abbrev pub bound_of : (a b : ExprTree) → ℕ
+bound_of a b = if is_literal a then constant_of a else constant_of b
+
+abbrev pub decides : (joint : COp) → (e other : ExprTree) → Bool
+decides joint (operation op a b others) (operation op' a' b' others') =
+    is_bounded op a b && (is_bounded op' a' b' && (alike (bounded a b) (bounded a' b')
+    && excludes (asked_of joint (order_of op a)) (bound_of a b) (asked_of joint (order_of op' a')) (bound_of a' b')))
+decides joint e other = false
+
+-- The first operand of a chain of conditions, beside the second one; a chain that goes on has begun so.
+abbrev pub begun : (joined : Bool) → (joint : COp) → (e second : ExprTree) → ExprTree
+begun true joint e second = e
+begun false joint e second = if decides joint e second then unary Not (unary Not e) else e
+
+abbrev pub joint_of : (both : Bool) → COp
+joint_of both = if both then Both else Either
+
 abbrev pub lowered_cond : Names → CondTree → ExprTree
 lowered_cond names (truth at b) = num (if b then 1 else 0)
 lowered_cond names (flag at path) = path_code names path
 lowered_cond names (compare at sign a op b) = numbers_compared op (comparand names a) (comparand names b)
 lowered_cond names (same_status at sign a one b) = statuses_compared one names a b
-lowered_cond names (junction at both joined a b) = chained joined (if both then Both else Either) (lowered_cond names a) (lowered_cond names b)
+lowered_cond names (junction at both joined a b) =
+    chained joined (joint_of both) (begun joined (joint_of both) (lowered_cond names a) (lowered_cond names b)) (lowered_cond names b)
 lowered_cond names (negation at a) = unary Not (lowered_cond names a)
 lowered_cond names (closed at a) = member (io_code names a) (codes "closed")
 lowered_cond names (has_category at t category) = category_code category (lowered_status names t)

@@ -7,6 +7,7 @@ pub mod examples;
 pub mod names;
 pub mod nodes;
 mod ors;
+pub mod overlaps;
 pub mod rated;
 pub mod scope;
 

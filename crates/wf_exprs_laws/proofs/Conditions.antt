@@ -16,6 +16,7 @@ use Rattle.wf_ast.specs.Same.{same_state}
 use Rattle.wf_ast.proofs.SameValue.{path_same}
 use Rattle.wf_ast.specs.Value.{State, value, io_buffer, compares, same_truth, same_category, status_value, truth_of}
 use Rattle.wf_ast.specs.WellTyped.{variable_at, is_whole_number, width_of, fit_together, well_num, well_status, well_cond}
+use Rattle.c_text.specs.declared.kinds.COp.{COp}
 use Rattle.c_text.specs.declared.kinds.COp.TheVariants.{Eq, Ne, Both, Either}
 use Rattle.c_text.specs.declared.kinds.CUnary.TheVariants.{Not}
 use Rattle.c_text.specs.CTree.{uint, size, boolean, uint_pointer, struct_pointer, text, ExprTree, variable, unary}
@@ -34,7 +35,7 @@ use Rattle.c_meaning.specs.CExprs.{Surroundings, held_value, combined, truth_val
 use Rattle.c_meaning.specs.CExprs as c
 use Rattle.wf_exprs.specs.Names.{names_of, status_name}
 use Rattle.wf_exprs.specs.Words.{literal, num, two}
-use Rattle.wf_exprs.specs.Exprs.{literal_type, path_code, is_held, is_literal, is_constant, constant_number, constants_compared, held_compared, order_op, Rated, compared, left_compared, right_compared, is_literal_zero, known_if, settled, settled_or, numbers_compared, chained, comparand, status_constant, lowered_status, variables_compared, statuses_compared, begins_with, category_code, lowered_cond}
+use Rattle.wf_exprs.specs.Exprs.{literal_type, path_code, is_held, is_literal, is_constant, constant_number, constants_compared, held_compared, order_op, Rated, compared, left_compared, right_compared, is_literal_zero, known_if, settled, settled_or, numbers_compared, chained, decides, begun, joint_of, comparand, status_constant, lowered_status, variables_compared, statuses_compared, begins_with, category_code, lowered_cond}
 use Rattle.wf_exprs_laws.specs.ExprLaw.{Declares, HasConstant, DeclaresStatus, DeclaresCond, IsNull, IsStatusValue, GivesNumber, GivesStatus, cell_behind, Stands}
 use Rattle.wf_exprs_laws.proofs.CNumbers.{comparison-whole}
 use Rattle.wf_exprs_laws.proofs.Operands.{IsNumber, literal-number, zero-number, chained-value}
@@ -169,6 +170,15 @@ junction-cond x true joined e f p q g h =
 junction-cond x false joined e f p q g h =
     let v = chained-value x joined Either e f in
     truth-cond x (chained joined Either e f) (holds g.at || holds h.at) (p || q) (v.1 ∙ rw (g.value, h.value) (or-value (holds g.at) h.at)) (rw (g.is, h.is) refl)
+
+-- The first operand is itself, or is negated twice.
+begun-cond : (x : Surroundings) (joined : Bool) (joint : COp) (e f : ExprTree) (p : Bool) → CondGives x e p → CondGives x (begun joined joint e f) p
+begun-cond x true joint e f p g = g
+begun-cond x false joint e f p g = by (decides joint e f)
+  where
+    by : (test : Bool) → CondGives x (if test then unary Not (unary Not e) else e) p
+    by true = subst (λ p. CondGives x (unary Not (unary Not e)) p) (not-not p) (not-cond x (unary Not e) (not p) (not-cond x e p g))
+    by false = g
 
 -- ---- comparisons of statuses
 
@@ -535,8 +545,11 @@ module _ (p : PackageTree) (m : MethodTree) (s : State) (x : Surroundings) (st :
       let q = and_parts (well_cond (record { within = p; method = m }) a) _ h in
       let d = came (λ p. option_map (λ q. if both then p && q else p || q) (truth_of s d_)) (truth_of s a) b e in
       let f = mapped (λ q. if both then d.from && q else d.from || q) (truth_of s d_) b d.gives in
-      subst (λ b. CondGives x (chained joined (if both then Both else Either) (lowered_cond (names_of p m) a) (lowered_cond (names_of p m) d_)) b) f.gives
-      (junction-cond x both joined (lowered_cond (names_of p m) a) (lowered_cond (names_of p m) d_) d.from f.from (conditions a d.from u.0 q.0 d.is) (conditions d_ f.from u.1 q.1 f.is))
+      let left = lowered_cond (names_of p m) a in
+      let right = lowered_cond (names_of p m) d_ in
+      let first = begun joined (joint_of both) left right in
+      subst (λ b. CondGives x (chained joined (joint_of both) first right) b) f.gives
+      (junction-cond x both joined first right d.from f.from (begun-cond x joined (joint_of both) left right d.from (conditions a d.from u.0 q.0 d.is)) (conditions d_ f.from u.1 q.1 f.is))
   conditions (negation at a) b u h e =
       let d = mapped not (truth_of s a) b e in
       subst (λ b. CondGives x (unary Not (lowered_cond (names_of p m) a)) b) d.gives (not-cond x (lowered_cond (names_of p m) a) d.from (conditions a d.from u h d.is))

@@ -13,9 +13,10 @@ use Rattle.wf_ast.specs.NodeKinds.{is_status_at, node_cond, node_status}
 use Rattle.wf_ast.proofs.Arena.{both_true}
 use Rattle.wf_ast.specs.OperatorForms.{is_joining, is_ordering, is_equal, order_in}
 use Rattle.wf_ast.proofs.ChainKinds.{operand_kinds, compares_numbers, compares_statuses}
+use Rattle.c_text.specs.declared.kinds.COp.{COp}
 use Rattle.c_text.specs.CTree.{ExprTree, operation, Operands, no_operand}
 use Rattle.wf_exprs.specs.Names.{Names}
-use Rattle.wf_exprs.specs.Exprs.{Rated, with_operand, chained, statuses_compared, lowered_cond, comparand}
+use Rattle.wf_exprs.specs.Exprs.{Rated, with_operand, chained, begun, statuses_compared, lowered_cond, comparand}
 use Rattle.wf_exprs.specs.Exprs as exprs
 use Rattle.wf_exprs.specs.Making.{HasRated, c_op, rated_in}
 use Rattle.wf_exprs.specs.declared.rated.Rated.{Rated as RatedNode}
@@ -37,6 +38,9 @@ map_conditions : (nodes : TypedNodes) (es : List ExprId) → map cond_in (map (t
 map_conditions nodes [] = refl
 map_conditions nodes (e ∷ es) = ap (λ ts. node_cond nodes e ∷ ts) (map_conditions nodes es)
 
+pub begun_is : {e f second third : ExprTree} {joint op : COp} → joint ≡ op → e ≡ f → second ≡ third → begun false joint e second ≡ begun false op f third
+begun_is {e = e} {f = f} {second = second} {op = op} g h k = ap (λ j. begun false j e second) g ∙ (ap (λ x. begun false op x second) h ∙ ap (λ x. begun false op f x) k)
+
 module _ (names : Names) where
   conditions_on : (at : Place) (both : Bool) (so_far : CondTree) (f s : ExprTree) (es : Operands) (ts : List ValueTree) → lowered_cond names so_far ≡ operation (c_op (joining both)) f s es
       → lowered_cond names (cond_chain at both true so_far ts) ≡ operation (c_op (joining both)) f s (appended es (conditions_behind names (map cond_in ts)))
@@ -46,19 +50,22 @@ module _ (names : Names) where
       (ap (λ a. chained true (c_op (joining both)) a (lowered_cond names (cond_in t))) h ∙ joined_on both f s es (lowered_cond names (cond_in t)))
       ∙ ap (operation (c_op (joining both)) f s) (appended_one es (lowered_cond names (cond_in t)) (conditions_behind names (map cond_in ts)))
 
-  two_conditions : (at : Place) (both : Bool) (a b : CondTree) → lowered_cond names (junction at both false a b) ≡ operation (c_op (joining both)) (lowered_cond names a) (lowered_cond names b) no_operand
+  two_conditions : (at : Place) (both : Bool) (a b : CondTree)
+      → lowered_cond names (junction at both false a b) ≡ operation (c_op (joining both)) (begun false (c_op (joining both)) (lowered_cond names a) (lowered_cond names b)) (lowered_cond names b) no_operand
   two_conditions at true a b = refl
   two_conditions at false a b = refl
 
   -- A chain of conditions is one operation.
   pub one_junction : (nodes : TypedNodes) (at : Place) (signs : List Place) (ty : Ty) (sort : OperatorKind) (es : List ExprId) (d : ExprId) → is_joining sort ≡ true → 1 < length es
-      → operation (c_op sort) (lowered_cond names (node_cond nodes (get_or es 0 d))) (lowered_cond names (node_cond nodes (get_or es 1 d))) (conditions_behind names (map (node_cond nodes) (drop 2 es)))
+      → operation (c_op sort) (begun false (c_op sort) (lowered_cond names (node_cond nodes (get_or es 0 d))) (lowered_cond names (node_cond nodes (get_or es 1 d)))) (lowered_cond names (node_cond nodes (get_or es 1 d)))
+      (conditions_behind names (map (node_cond nodes) (drop 2 es)))
       ≡ lowered_cond names (cond_in (chain_of at signs ty sort (map (tree_of nodes) es)))
   one_junction nodes at signs ty (joining both) [] d j l = absurd (omega (arith, l))
   one_junction nodes at signs ty (joining both) (a ∷ []) d j l = absurd (omega (arith, l))
   one_junction nodes at signs ty (joining both) (a ∷ b ∷ es) d j l =
-      ap (λ ts. operation (c_op (joining both)) (lowered_cond names (node_cond nodes a)) (lowered_cond names (node_cond nodes b)) (conditions_behind names ts)) (sym (map_conditions nodes es))
-      ∙ sym (conditions_on at both (junction at both false (node_cond nodes a) (node_cond nodes b)) (lowered_cond names (node_cond nodes a)) (lowered_cond names (node_cond nodes b)) no_operand (map (tree_of nodes) es) (two_conditions at both (node_cond nodes a) (node_cond nodes b)))
+      let first = begun false (c_op (joining both)) (lowered_cond names (node_cond nodes a)) (lowered_cond names (node_cond nodes b)) in
+      ap (λ ts. operation (c_op (joining both)) first (lowered_cond names (node_cond nodes b)) (conditions_behind names ts)) (sym (map_conditions nodes es))
+      ∙ sym (conditions_on at both (junction at both false (node_cond nodes a) (node_cond nodes b)) first (lowered_cond names (node_cond nodes b)) no_operand (map (tree_of nodes) es) (two_conditions at both (node_cond nodes a) (node_cond nodes b)))
   one_junction nodes at signs ty (ordering op) es d j l = absurd (cc j)
   one_junction nodes at signs ty (arithmetic op) es d j l = absurd (cc j)
 
@@ -77,12 +84,12 @@ module _ (names : Names) where
   -- The operation of what a unit has is the whole chain.
   pub junction_is : (nodes : TypedNodes) (at : Place) (signs : List Place) (ty : Ty) (sort : OperatorKind) (es : List ExprId) (d : ExprId) (u : Nodes) (first second : CExprId) (others : List CExprId)
       → is_joining sort ≡ true → 1 < length es
-      → HasExpr u first.0 (lowered_cond names (node_cond nodes (get_or es 0 d))) → HasExpr u second.0 (lowered_cond names (node_cond nodes (get_or es 1 d))) → HasOperands u others (conditions_behind names (map (node_cond nodes) (drop 2 es)))
+      → HasExpr u first.0 (begun false (c_op sort) (lowered_cond names (node_cond nodes (get_or es 0 d))) (lowered_cond names (node_cond nodes (get_or es 1 d)))) → HasExpr u second.0 (lowered_cond names (node_cond nodes (get_or es 1 d))) → HasOperands u others (conditions_behind names (map (node_cond nodes) (drop 2 es)))
       → operation (c_op sort) (expr_of u first.0) (expr_of u second.0) (operands_in (expr_of u) others) ≡ lowered_cond names (cond_in (chain_of at signs ty sort (map (tree_of nodes) es)))
   junction_is nodes at signs ty sort es d u first second others j l a b o =
       ap (λ x. operation (c_op sort) x (expr_of u second.0) (operands_in (expr_of u) others)) a.is
-      ∙ ap (λ x. operation (c_op sort) (lowered_cond names (node_cond nodes (get_or es 0 d))) x (operands_in (expr_of u) others)) b.is
-      ∙ ap (λ x. operation (c_op sort) (lowered_cond names (node_cond nodes (get_or es 0 d))) (lowered_cond names (node_cond nodes (get_or es 1 d))) x) (has_is u others (conditions_behind names (map (node_cond nodes) (drop 2 es))) o)
+      ∙ ap (λ x. operation (c_op sort) (begun false (c_op sort) (lowered_cond names (node_cond nodes (get_or es 0 d))) (lowered_cond names (node_cond nodes (get_or es 1 d)))) x (operands_in (expr_of u) others)) b.is
+      ∙ ap (λ x. operation (c_op sort) (begun false (c_op sort) (lowered_cond names (node_cond nodes (get_or es 0 d))) (lowered_cond names (node_cond nodes (get_or es 1 d)))) (lowered_cond names (node_cond nodes (get_or es 1 d))) x) (has_is u others (conditions_behind names (map (node_cond nodes) (drop 2 es))) o)
       ∙ one_junction nodes at signs ty sort es d j l
 
   -- Numbers.

@@ -28,6 +28,7 @@ use std::alloc::Global;
 use wf_ast::{Expr, ExprId, Op, Ty, Typed, io_arg, same as are_same};
 use wf_base::BaseSig;
 use wf_exprs::nodes::{is_held, is_literal, negated, two};
+use wf_exprs::overlaps::begun;
 use wf_exprs::rated::{left_compared, op_of, right_compared};
 use wf_exprs::{BodyNames, Path, Rated};
 use wf_text::{Category, NoMemory};
@@ -129,6 +130,7 @@ fn junction(
 {
     let first = condition(scope, u, parts[0])?;
     let second = condition(scope, u, parts[1])?;
+    let first = begun(u, op_of(op), first, second)?;
     let mut others = CList::new(scope.alloc());
     for i in 2..parts.len() {
         let operand = condition(scope, u, parts[i])?;

@@ -25,7 +25,7 @@ use Rattle.c_text.specs.CTree as c
 use Rattle.wf_exprs.specs.Names.{Names}
 use Rattle.wf_exprs.specs.Words.{num, uint_of, two}
 use Rattle.wf_ast.specs.Value.{same_truth}
-use Rattle.wf_exprs.specs.Exprs.{calculated, rank, Rated, rated, recast, firm, balanced, op_of, with_operand, same_op, chained, saturated, cut_off, taken, is_filled, factor, linked, converted, widened, path_code, Pair, path_pair, is_array, moved, part_pointer, part_length, place_code, bytes_code, peeked, raised, byte_at, byte_ahead, bytes_ahead, number_ahead, peek_code, asked_code, lowered, lowered_slice, lowered_end, bare, is_ones, is_short_ones, is_converted, apart, with_zero, xor_operand, pair_compared, comparand, beside, is_decided, unmoved, unmoved_in, compared_with, is_itself, left_compared, settled, settled_or, given, status_constant, lowered_status, same_code, is_literal, is_held, compared, is_constant, constant_number, constants_compared, held_compared, variables_compared, statuses_compared, begins_with, category_code, lowered_cond}
+use Rattle.wf_exprs.specs.Exprs.{calculated, rank, Rated, rated, recast, firm, balanced, op_of, with_operand, same_op, chained, saturated, cut_off, taken, is_filled, factor, linked, converted, widened, path_code, Pair, path_pair, is_array, moved, part_pointer, part_length, place_code, bytes_code, peeked, raised, byte_at, byte_ahead, bytes_ahead, number_ahead, peek_code, asked_code, lowered, lowered_slice, lowered_end, bare, is_ones, is_short_ones, is_converted, apart, with_zero, xor_operand, pair_compared, comparand, beside, is_decided, unmoved, unmoved_in, compared_with, is_itself, left_compared, settled, settled_or, given, status_constant, lowered_status, same_code, is_literal, is_held, compared, is_constant, constant_number, constants_compared, held_compared, variables_compared, statuses_compared, begins_with, category_code, decides, begun, joint_of, lowered_cond}
 use Rattle.wf_lower_laws.specs.BracketLaw.{repeats, goes_on, cond_goes_on, num_within, slice_within, end_within, cond_within}
 use Rattle.wf_lower_laws.proofs.Apart.{same_number}
 use Rattle.wf_lower_laws.proofs.OpenBrackets.{ExprOpens, OperandsOpen}
@@ -640,12 +640,9 @@ module _ (names : Names) where
   by_category k Suspension e l h = by_begins 0 k 36 e (omega (arith, l)) h
   by_category k Fault e l h = by_begins 0 k 35 e (omega (arith, l)) h
 
-  abbrev join_op : Bool → COp
-  join_op both = if both then Both else Either
-
-  cond_operates : (both : Bool) (c : CondTree) → cond_goes_on both c ≡ true → Operates (join_op both) (lowered_cond names c)
-  cond_operates true (junction at true joined a b) h = chained_operates joined Both (lowered_cond names a) (lowered_cond names b)
-  cond_operates false (junction at false joined a b) h = chained_operates joined Either (lowered_cond names a) (lowered_cond names b)
+  cond_operates : (both : Bool) (c : CondTree) → cond_goes_on both c ≡ true → Operates (joint_of both) (lowered_cond names c)
+  cond_operates true (junction at true joined a b) h = chained_operates joined Both (begun joined Both (lowered_cond names a) (lowered_cond names b)) (lowered_cond names b)
+  cond_operates false (junction at false joined a b) h = chained_operates joined Either (begun joined Either (lowered_cond names a) (lowered_cond names b)) (lowered_cond names b)
   cond_operates true (junction at false joined a b) h = absurd (cc h)
   cond_operates false (junction at true joined a b) h = absurd (cc h)
   cond_operates true (truth at t) h = absurd (cc h)
@@ -663,10 +660,18 @@ module _ (names : Names) where
   cond_operates false (closed at a) h = absurd (cc h)
   cond_operates false (has_category at t category) h = absurd (cc h)
 
+  -- The first operand of a chain may be negated twice.
+  by_begun : (d : ℕ) (joint : COp) (e f : ExprTree) → ExprBy d e → ExprBy (d + 2) (begun false joint e f)
+  by_begun d joint e f h =
+      by_if (d + 2) (decides joint e f) (unary Not (unary Not e)) e (by_unary (d + 1) (d + 2) Not (unary Not e) (omega arith) (by_unary d (d + 1) Not e (omega arith) h)) (by_more d (d + 2) e (omega arith) h)
+
   junction_by : (d : ℕ) (both joined : Bool) (a b : CondTree) (g : Bool) → 1 ≤ d → (joined && cond_goes_on both a) ≡ g → ExprBy (5 * (if g then d else d - 1) + 5) (lowered_cond names a) → ExprBy (5 * (d - 1) + 5) (lowered_cond names b)
-      → ExprBy (5 * d + 5) (chained joined (join_op both) (lowered_cond names a) (lowered_cond names b))
-  junction_by d both joined a b false l e h j = by_chained (5 * (d - 1) + 5) (5 * d + 5) joined (join_op both) _ _ (omega (arith, l)) h j
-  junction_by d both true a b true l e h j = by_going (5 * (d - 1) + 5) (5 * d + 5) (join_op both) _ _ (omega (arith, l)) (cond_operates both a e) h j
+      → ExprBy (5 * d + 5) (chained joined (joint_of both) (begun joined (joint_of both) (lowered_cond names a) (lowered_cond names b)) (lowered_cond names b))
+  junction_by d both true a b false l e h j = by_chained (5 * (d - 1) + 5) (5 * d + 5) true (joint_of both) _ _ (omega (arith, l)) h j
+  junction_by d both false a b false l e h j =
+      by_chained (5 * (d - 1) + 7) (5 * d + 5) false (joint_of both) _ _ (omega (arith, l)) (by_more (5 * (d - 1) + 5 + 2) (5 * (d - 1) + 7) _ (omega arith) (by_begun (5 * (d - 1) + 5) (joint_of both) _ _ h))
+      (by_more (5 * (d - 1) + 5) (5 * (d - 1) + 7) _ (omega arith) j)
+  junction_by d both true a b true l e h j = by_going (5 * (d - 1) + 5) (5 * d + 5) (joint_of both) _ _ (omega (arith, l)) (cond_operates both a e) h j
   junction_by d both false a b true l e h j = absurd (cc e)
 
   pub cond_by : (d : ℕ) (t : CondTree) → cond_within d t ≡ true → ExprBy (5 * d + 5) (lowered_cond names t)

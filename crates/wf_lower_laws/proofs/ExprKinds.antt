@@ -26,7 +26,7 @@ use Rattle.c_meaning.specs.CValues.{common}
 use Rattle.c_meaning.specs.CTypes.{CScope, promoted, ExprType, numbers, points_to, zero_literal, byte, as_number, arithmetic_type, sum_type, one_type, test_type, operation_type, operations_type, type_of, operand_types, cast_from, literal_type}
 use Rattle.wf_exprs.specs.Names.{Names}
 use Rattle.wf_exprs.specs.Words.{literal, num, uint_of, width_of, two}
-use Rattle.wf_exprs.specs.Exprs.{calculated, rank, Rated, rated, recast, firm, balanced, with_operand, same_op, chained, cut_off, taken, is_filled, factor, linked, converted, widened, is_held, is_array as is_whole, moved, part_pointer, part_length, io_code, place_code, end_code, bytes_code, peeked, byte_at, byte_ahead, bytes_ahead, number_ahead, peek_code, asked_code, same_code, compared, is_literal, is_constant, constant_number, constants_compared, held_compared, variables_compared, statuses_compared, begins_with, category_code, lowered, lowered_slice, lowered_end, is_ones, is_short_ones, is_converted, apart, with_zero, xor_operand, pair_compared, comparand, beside, is_decided, unmoved, unmoved_in, compared_with, is_itself, left_compared, settled, settled_or, lowered_status, lowered_cond}
+use Rattle.wf_exprs.specs.Exprs.{calculated, rank, Rated, rated, recast, firm, balanced, with_operand, same_op, chained, cut_off, taken, is_filled, factor, linked, converted, widened, is_held, is_array as is_whole, moved, part_pointer, part_length, io_code, place_code, end_code, bytes_code, peeked, byte_at, byte_ahead, bytes_ahead, number_ahead, peek_code, asked_code, same_code, compared, is_literal, is_constant, constant_number, constants_compared, held_compared, variables_compared, statuses_compared, begins_with, category_code, lowered, lowered_slice, lowered_end, is_ones, is_short_ones, is_converted, apart, with_zero, xor_operand, pair_compared, comparand, beside, is_decided, unmoved, unmoved_in, compared_with, is_itself, left_compared, settled, settled_or, lowered_status, decides, begun, joint_of, lowered_cond}
 use Rattle.wf_exprs.proofs.ByteLaws.{more_bytes}
 use Rattle.wf_lower_laws.proofs.Surfaces.{same_width}
 use Rattle.wf_lower_laws.specs.KindLaw.{IsNum, IsPointer, IsText, IsBuffer, Declares, has_op, has_question, num_served, slice_served, end_served, status_served, cond_served, ExpressionsKeepKinds}
@@ -461,6 +461,10 @@ module _ (S : CScope) where
         (num_kind (if same_truth one (nat_eq (constant_number a) (constant_number b)) then 1 else 0))
         (kind_if (same_state a b) (num (if one then 1 else 0)) (held_compared one names a b) (num_kind (if one then 1 else 0)) (held_kind one a b h j))
 
+    begun_kind : (joined : Bool) (joint : COp) (e f : ExprTree) → IsNum S e → IsNum S (begun joined joint e f)
+    begun_kind true joint e f h = h
+    begun_kind false joint e f h = kind_if (decides joint e f) (unary Not (unary Not e)) e (not_kind _ (not_kind e h)) h
+
     condition_kind : (t : CondTree) → well_cond x t ≡ true → cond_served has knows reads t ≡ true → IsNum S (lowered_cond names t)
     condition_kind (truth at b) w s = num_kind (if b then 1 else 0)
     condition_kind (flag at path) w s = d.flags path w
@@ -479,7 +483,9 @@ module _ (S : CScope) where
     condition_kind (junction at both joined a b) w s =
         let p = both_true (well_cond x a) (well_cond x b) w in
         let u = both_true (cond_served has knows reads a) (cond_served has knows reads b) s in
-        chained_kind joined (if both then Both else Either) _ _ (condition_kind a p.0 u.0) (condition_kind b p.1 u.1)
+        let left = lowered_cond names a in
+        let right = lowered_cond names b in
+        chained_kind joined (joint_of both) _ _ (begun_kind joined (joint_of both) left right (condition_kind a p.0 u.0)) (condition_kind b p.1 u.1)
     condition_kind (negation at a) w s = not_kind _ (condition_kind a w s)
     condition_kind (closed at a) w s = (d.readers a w).closed
     condition_kind (has_category at t category) w s = category_kind category _ (status_kind t w s)

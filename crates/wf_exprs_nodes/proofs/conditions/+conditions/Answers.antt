@@ -7,10 +7,10 @@ use Rattle.wf_ast.proofs.Arena.{both_true}
 use Rattle.c_text.specs.CTree.{Operands, no_operand}
 use Rattle.c_text.specs.declared.ids.CExprId.{CExprId}
 use Rattle.wf_exprs.specs.Exprs.{with_operand, lowered_cond}
-use Rattle.wf_exprs.proofs.Growing.{grows_on, kept_expr, retell}
+use Rattle.wf_exprs.proofs.Growing.{grows_on, kept_expr, retell, retold}
 use Rattle.wf_exprs_nodes.specs.Trees.{HasOperands}
 use Rattle.wf_ast.proofs.ChainKinds.{all_there}
-use Rattle.wf_exprs_nodes.proofs.ConditionLaws.{behind_end, behind_next, junction_is}
+use Rattle.wf_exprs_nodes.proofs.ConditionLaws.{begun_is, behind_end, behind_next, junction_is}
 use Rattle.wf_exprs_nodes.proofs.KindLaws.{of_conditions, of_comparison, condition_below}
 use Rattle.wf_exprs_nodes.proofs.OperandLaws.{has_there, has_kept, has_pushed}
 use Rattle.wf_exprs_nodes.proofs.conditions.+conditions.Goals as goal
@@ -38,9 +38,10 @@ pub junction-loop-i-init : goal.junction-loop-i-init
 junction-loop-i-init t c =
     record {
       from = omega arith;
-      grows = grows_on c.condition.ensures.grows c.condition-2.ensures.grows;
-      one = kept_expr _ _ c.condition-2.ensures.grows c.in_ok-first.ensures.made;
-      two = c.in_ok-second.ensures.made;
+      grows = grows_on (grows_on c.condition.ensures.grows c.condition-2.ensures.grows) c.begun.ensures.grows;
+      one = let was = kept_expr _ _ c.condition-2.ensures.grows c.in_ok-first.ensures.made in
+          retold c.in_ok-first-2.ensures.made (begun_is c.op_of.ensures was.is c.in_ok-second.ensures.made.is);
+      two = kept_expr _ _ c.begun.ensures.grows c.in_ok-second.ensures.made;
       so_far = no_operand;
       has = rw (c.new-others.ensures) tt;
       left = refl;

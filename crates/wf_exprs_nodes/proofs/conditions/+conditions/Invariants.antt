@@ -1,7 +1,9 @@
-use Rattle.std.proofs.Common.{◌≡◌, ◌+◌, ◌*◌, ◌≤◌, drop, get_or, map}
+use Rattle.std.proofs.Common.{◌≡◌, ◌+◌, ◌*◌, ◌≤◌, drop, get_or, map, false}
 use Rattle.wf_ast.specs.NodeKinds.{node_cond}
 use Rattle.c_text.specs.CTree.{Operands}
-use Rattle.wf_exprs.specs.Exprs.{lowered_cond}
+use Rattle.wf_ast.specs.TypedTrees.{operator_kind}
+use Rattle.wf_exprs.specs.Exprs.{begun, lowered_cond}
+use Rattle.wf_exprs.specs.Making.{c_op}
 use Rattle.wf_exprs.specs.Grown.{Grows, HasExpr}
 use Rattle.wf_exprs_nodes.specs.Trees.{HasOperands, conditions_behind}
 use Rattle.wf_exprs_nodes.proofs.ChainLaws.{appended}
@@ -24,7 +26,7 @@ abbrev pub invariant-junction-loop-i : goal.invariant-junction-loop-i
 invariant-junction-loop-i l = record {
   from : 2 ≤ l.i;
   grows : Grows l.fn.u l.u;
-  one : HasExpr l.u l.first.0 (lowered_cond l.scope.names (node_cond l.scope.nodes (get_or l.parts 0 (record { 0 = 0 }))));
+  one : HasExpr l.u l.first.0 (begun false (c_op (operator_kind l.op)) (lowered_cond l.scope.names (node_cond l.scope.nodes (get_or l.parts 0 (record { 0 = 0 })))) (lowered_cond l.scope.names (node_cond l.scope.nodes (get_or l.parts 1 (record { 0 = 0 })))));
   two : HasExpr l.u l.second.0 (lowered_cond l.scope.names (node_cond l.scope.nodes (get_or l.parts 1 (record { 0 = 0 }))));
   so_far : Operands;
   has : HasOperands l.u l.others so_far;
