@@ -43,7 +43,7 @@ pub(crate) fn check_arms(
         let fits = check_arm(walk, at, arm.cond, &mut known)?;
         room = room && fits;
     }
-    let _few = known.len();
+    known.keeps_limit();
     if room {
         Ok(())
     } else {
@@ -67,7 +67,7 @@ fn check_arm(walk: &Walk, at: Place, cond: ExprId, known: &mut Facts) -> Result<
     ensures over { IsOver walk.now.t.now known.new }
     ensures checks { ChecksArm walk.now.t.now at (claims_in walk.now.t.now known.old.list) (node_cond walk.now.t.now cond) result known.new }
 {
-    check_condition(walk.t, known.as_slice(), cond)?;
+    check_condition(walk.t, &known.as_known(walk.t), cond)?;
     let fits = has_room(walk, at, cond, known)?;
     add(known, walk.t, cond, false, at)?;
     Ok(fits)
@@ -79,7 +79,7 @@ fn has_room(walk: &Walk, at: Place, cond: ExprId, known: &Facts) -> Result<bool,
     requires over { IsOver walk.now.t.now known.now }
     ensures { IfOk result (λ fits. fits ≡ keeps_limit (with_condition (claims_in walk.now.t.now known.now.list) (node_cond walk.now.t.now cond) true)) }
 {
-    if known.len() < 512 && joins_none(walk.t.expr(cond)) {
+    if known.has_room() && joins_none(walk.t.expr(cond)) {
         return Ok(true);
     }
     let mut front = known.copy(walk.alloc)?;

@@ -40,7 +40,7 @@ fn test(walk: &Walk, w: StmtId, known: &mut Facts) -> Result<(), PhaseFault>
     ensures tests { Tests walk.now.t.now (claims_in walk.now.t.now known.old.list) (place_at walk.now.t.now w) (head_at walk.now.t.now w) result known.new }
 {
     let cond = head_of(walk.t, w).cond;
-    check_condition(walk.t, known.as_slice(), cond)?;
+    check_condition(walk.t, &known.as_known(walk.t), cond)?;
     at_exit(walk.alloc, known, walk.t, w)?;
     add(known, walk.t, cond, true, place_of(walk.t, w))?;
     Ok(())

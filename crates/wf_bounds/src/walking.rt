@@ -115,7 +115,7 @@ fn walk_if(
 {
     check_arms(walk, s, arms, facts)?;
     let way = walk_arms(walk, s, arms, otherwise, facts);
-    let _few = facts.len();
+    facts.keeps_limit();
     way
 }
 

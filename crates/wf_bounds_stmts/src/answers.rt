@@ -3,7 +3,8 @@
 ghost use Rattle.std.specs.Prelude.{◌≡◌, None, IsTrue};
 ghost use Rattle.wf_ast.specs.TypedTrees.{optional_target, target_of, tree_of};
 ghost use Rattle.wf_ast.specs.TypedInvariant.{is_expr, is_optional_expr};
-ghost use Rattle.wf_facts_exprs.specs.Claims.{claims_in, AreFacts};
+ghost use Rattle.wf_facts_exprs.specs.Knowledge.{IsKnown, told};
+ghost use Rattle.wf_facts_exprs.specs.Claims.{claims_in};
 ghost use Rattle.wf_facts_exprs.specs.Demands.{unless_refused};
 ghost use Rattle.wf_facts.specs.IndexedFacts.{IsOver};
 ghost use Rattle.wf_bounds_stmts.specs.Requirements.{number_type};
@@ -15,21 +16,21 @@ use crate::interrupting::interrupt;
 use crate::targets::{check_target, drop_written, taken, written};
 use wf_ast::{ExprId, Ty, Typed};
 use wf_facts::Facts;
-use wf_facts_exprs::Fact;
+use wf_facts_exprs::Known;
 use wf_text::{Place, Refusal, Rule};
 
 /// Checks a call's target under the list that the call leaves: its index, and that it takes all numbers that the call may
 /// answer. `at` is the call's place.
 pub(crate) fn check_answer(
     t: &Typed,
-    facts: &[Fact],
+    facts: &Known,
     at: Place,
     target: Option<ExprId>,
     answers: Ty,
 ) -> Result<(), Refusal>
-    requires known { AreFacts t.now facts.now }
+    requires known { IsKnown t.now facts.now }
     requires there { IsTrue (is_optional_expr t.now target) }
-    ensures { result ≡ unless_refused (answer_refusal (claims_in t.now facts.now) at (optional_target (tree_of t.now) target) (number_type answers)) tt }
+    ensures { result ≡ unless_refused (answer_refusal (claims_in t.now (told facts.now)) at (optional_target (tree_of t.now) target) (number_type answers)) tt }
 {
     match target {
         None => Ok(()),
@@ -39,14 +40,14 @@ pub(crate) fn check_answer(
 
 fn check_taken(
     t: &Typed,
-    facts: &[Fact],
+    facts: &Known,
     at: Place,
     target: ExprId,
     answers: Ty,
 ) -> Result<(), Refusal>
-    requires known { AreFacts t.now facts.now }
+    requires known { IsKnown t.now facts.now }
     requires there { IsTrue (is_expr t.now target) }
-    ensures { result ≡ unless_refused (answer_refusal (claims_in t.now facts.now) at (target_of (tree_of t.now target)) (number_type answers)) tt }
+    ensures { result ≡ unless_refused (answer_refusal (claims_in t.now (told facts.now)) at (target_of (tree_of t.now target)) (number_type answers)) tt }
 {
     check_target(t, facts, target)?;
     if holds_all(taken(t, target), answers) {
@@ -101,7 +102,7 @@ pub(crate) fn await_answer(
     ensures settles { Settles t.now (answer_refusal (interrupted (claims_in t.now facts.old.list)) at (optional_target (tree_of t.now) target) (number_type answers)) (awaited (claims_in t.now facts.old.list) (optional_target (tree_of t.now) target)) result facts.new }
 {
     interrupt(t, facts);
-    check_answer(t, facts.as_slice(), at, target, answers)?;
+    check_answer(t, &facts.as_known(t), at, target, answers)?;
     drop_target(t, facts, target);
     Ok(())
 }

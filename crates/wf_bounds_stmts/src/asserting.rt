@@ -4,7 +4,8 @@ ghost use Rattle.std.specs.Prelude.{◌≡◌, ◌<◌, ◌≤◌, length, map, 
 ghost use Rattle.wf_text.specs.declared.rules.Rule.TheVariants.{B6, B7};
 ghost use Rattle.wf_ast.specs.TypedTrees.{axiom_made, text_of, tree_of};
 ghost use Rattle.wf_ast.specs.NodeKinds.{is_condition_at, is_number_at, node_cond, node_number};
-ghost use Rattle.wf_facts_exprs.specs.Claims.{claims_in, AreFacts};
+ghost use Rattle.wf_facts_exprs.specs.Knowledge.{IsKnown, told};
+ghost use Rattle.wf_facts_exprs.specs.Claims.{claims_in};
 ghost use Rattle.wf_facts_exprs.specs.Demands.{cond_refusal, demand, num_refusal, or_else, unless_refused};
 ghost use Rattle.wf_facts.specs.FactLists.{with_condition};
 ghost use Rattle.wf_facts.specs.IndexedFacts.{IsOver};
@@ -21,7 +22,7 @@ use crate::limits::look_at;
 use wf_ast::{AxiomRef, ExprId, TextId, Typed};
 use wf_axioms::{Axiom, Premises, axiom, premises};
 use wf_facts::Facts;
-use wf_facts_exprs::{Cmp, Fact, Side, check_value, gives, gives_sides};
+use wf_facts_exprs::{Cmp, Known, Side, check_value, gives, gives_sides};
 use wf_text::{Place, Refusal, Rule};
 
 /// An assertion. A refusal is the first of what it requires, or that of a list which would hold too much, at the statement's
@@ -39,26 +40,26 @@ pub(crate) fn assert(
     ensures over { IsOver t.now facts.new }
     ensures answers { Answers t.now at (claim_refusal (claims_in t.now facts.old.list) at (node_cond t.now goal) (axiom_made t.now (tree_of t.now) by.now)) (with_condition (claims_in t.now facts.old.list) (node_cond t.now goal) true) result facts.new }
 {
-    check_assertion(t, facts.as_slice(), at, goal, by)?;
+    check_assertion(t, &facts.as_known(t), at, goal, by)?;
     facts
         .add_condition(t, goal, true)
         .map_err(|_| Refusal { rule: Rule::L8, at })?;
-    let _few = facts.len();
+    facts.keeps_limit();
     Ok(())
 }
 
 /// Checks what an assertion requires.
 fn check_assertion(
     t: &Typed,
-    facts: &[Fact],
+    facts: &Known,
     at: Place,
     goal: ExprId,
     by: &Option<AxiomRef>,
 ) -> Result<(), Refusal>
-    requires known { AreFacts t.now facts.now }
+    requires known { IsKnown t.now facts.now }
     requires goal { IsTrue (is_condition_at t.now goal) }
     requires by { MayBeAxiomOf t.now by.now }
-    ensures { result ≡ unless_refused (claim_refusal (claims_in t.now facts.now) at (node_cond t.now goal) (axiom_made t.now (tree_of t.now) by.now)) tt }
+    ensures { result ≡ unless_refused (claim_refusal (claims_in t.now (told facts.now)) at (node_cond t.now goal) (axiom_made t.now (tree_of t.now) by.now)) tt }
 {
     match by {
         None => check_required(t, facts, at, goal),
@@ -67,10 +68,10 @@ fn check_assertion(
 }
 
 // Without an axiom the condition has a value, and is given.
-fn check_required(t: &Typed, facts: &[Fact], at: Place, goal: ExprId) -> Result<(), Refusal>
-    requires known { AreFacts t.now facts.now }
+fn check_required(t: &Typed, facts: &Known, at: Place, goal: ExprId) -> Result<(), Refusal>
+    requires known { IsKnown t.now facts.now }
     requires goal { IsTrue (is_condition_at t.now goal) }
-    ensures { result ≡ unless_refused (required (claims_in t.now facts.now) B6 at (node_cond t.now goal)) tt }
+    ensures { result ≡ unless_refused (required (claims_in t.now (told facts.now)) B6 at (node_cond t.now goal)) tt }
 {
     check_condition(t, facts, goal)?;
     if gives(t, facts, goal, true) {
@@ -81,11 +82,11 @@ fn check_required(t: &Typed, facts: &[Fact], at: Place, goal: ExprId) -> Result<
 }
 
 // By an axiom the condition and what is given for letters have values, and all premises are given.
-fn check_by_axiom(t: &Typed, facts: &[Fact], goal: ExprId, by: &AxiomRef) -> Result<(), Refusal>
-    requires known { AreFacts t.now facts.now }
+fn check_by_axiom(t: &Typed, facts: &Known, goal: ExprId, by: &AxiomRef) -> Result<(), Refusal>
+    requires known { IsKnown t.now facts.now }
     requires goal { IsTrue (is_condition_at t.now goal) }
     requires by { IsAxiomOf t.now by.now }
-    ensures { result ≡ unless_refused (or_else (cond_refusal (claims_in t.now facts.now) (node_cond t.now goal)) (or_else (given_refusal (claims_in t.now facts.now) (given_trees t.now by.now.given)) (axiom_refusal (claims_in t.now facts.now) by.now.at (node_cond t.now goal) (given_trees t.now by.now.given) (axiom_named (text_of t.now by.now.name))))) tt }
+    ensures { result ≡ unless_refused (or_else (cond_refusal (claims_in t.now (told facts.now)) (node_cond t.now goal)) (or_else (given_refusal (claims_in t.now (told facts.now)) (given_trees t.now by.now.given)) (axiom_refusal (claims_in t.now (told facts.now)) by.now.at (node_cond t.now goal) (given_trees t.now by.now.given) (axiom_named (text_of t.now by.now.name))))) tt }
 {
     check_condition(t, facts, goal)?;
     check_given(t, facts, by.given.as_slice())?;
@@ -93,13 +94,13 @@ fn check_by_axiom(t: &Typed, facts: &[Fact], goal: ExprId, by: &AxiomRef) -> Res
 }
 
 // The axiom that is named is known, matches, and has its premises.
-fn check_axiom(t: &Typed, facts: &[Fact], goal: ExprId, by: &AxiomRef) -> Result<(), Refusal>
-    requires known { AreFacts t.now facts.now }
+fn check_axiom(t: &Typed, facts: &Known, goal: ExprId, by: &AxiomRef) -> Result<(), Refusal>
+    requires known { IsKnown t.now facts.now }
     requires goal { IsTrue (is_condition_at t.now goal) }
     requires by { IsAxiomOf t.now by.now }
-    requires fine { cond_refusal (claims_in t.now facts.now) (node_cond t.now goal) ≡ None }
-    requires given_fine { given_refusal (claims_in t.now facts.now) (given_trees t.now by.now.given) ≡ None }
-    ensures { result ≡ unless_refused (axiom_refusal (claims_in t.now facts.now) by.now.at (node_cond t.now goal) (given_trees t.now by.now.given) (axiom_named (text_of t.now by.now.name))) tt }
+    requires fine { cond_refusal (claims_in t.now (told facts.now)) (node_cond t.now goal) ≡ None }
+    requires given_fine { given_refusal (claims_in t.now (told facts.now)) (given_trees t.now by.now.given) ≡ None }
+    ensures { result ≡ unless_refused (axiom_refusal (claims_in t.now (told facts.now)) by.now.at (node_cond t.now goal) (given_trees t.now by.now.given) (axiom_named (text_of t.now by.now.name))) tt }
 {
     let named = axiom(t.text(by.name));
     match named {
@@ -113,18 +114,18 @@ fn check_axiom(t: &Typed, facts: &[Fact], goal: ExprId, by: &AxiomRef) -> Result
 
 fn check_matched(
     t: &Typed,
-    facts: &[Fact],
+    facts: &Known,
     text_at: Place,
     a: Axiom,
     goal: ExprId,
     given: &[(TextId, ExprId)],
 ) -> Result<(), Refusal>
-    requires known { AreFacts t.now facts.now }
+    requires known { IsKnown t.now facts.now }
     requires goal { IsTrue (is_condition_at t.now goal) }
     requires given { All (λ g. is_given_number t.now g ≡ true) given.now }
-    requires fine { cond_refusal (claims_in t.now facts.now) (node_cond t.now goal) ≡ None }
-    requires given_fine { given_refusal (claims_in t.now facts.now) (given_trees t.now given.now) ≡ None }
-    ensures { result ≡ unless_refused (matched_refusal (claims_in t.now facts.now) text_at a (premises_for a (node_cond t.now goal) (given_trees t.now given.now))) tt }
+    requires fine { cond_refusal (claims_in t.now (told facts.now)) (node_cond t.now goal) ≡ None }
+    requires given_fine { given_refusal (claims_in t.now (told facts.now)) (given_trees t.now given.now) ≡ None }
+    ensures { result ≡ unless_refused (matched_refusal (claims_in t.now (told facts.now)) text_at a (premises_for a (node_cond t.now goal) (given_trees t.now given.now))) tt }
 {
     let p = premises(a, t, goal, given).map_err(|_| Refusal {
         rule: Rule::B6,
@@ -136,17 +137,17 @@ fn check_matched(
 // All premises are given, in order.
 fn check_premises(
     t: &Typed,
-    facts: &[Fact],
+    facts: &Known,
     text_at: Place,
     a: Axiom,
     p: Premises,
 ) -> Result<(), Refusal>
-    requires known { AreFacts t.now facts.now }
+    requires known { IsKnown t.now facts.now }
     requires count { p.count ≡ length (row_of a).premises }
     requires few { p.count ≤ 3 }
     requires sides { All (λ i. is_item t.now i ≡ true) p.items }
-    requires fine { AreFineItems t.now (claims_in t.now facts.now) p }
-    ensures { result ≡ unless_refused (premises_refusal (claims_in t.now facts.now) (map (place_inside text_at) (offsets_of a)) (claims_of_items t.now p)) tt }
+    requires fine { AreFineItems t.now (claims_in t.now (told facts.now)) p }
+    ensures { result ≡ unless_refused (premises_refusal (claims_in t.now (told facts.now)) (map (place_inside text_at) (offsets_of a)) (claims_of_items t.now p)) tt }
 {
     let offsets = premise_offsets(a);
     for i in 0..p.count as usize {
@@ -157,14 +158,14 @@ fn check_premises(
 
 fn check_premise(
     t: &Typed,
-    facts: &[Fact],
+    facts: &Known,
     item: (Side, Cmp, Side),
     at: Place,
 ) -> Result<(), Refusal>
-    requires known { AreFacts t.now facts.now }
+    requires known { IsKnown t.now facts.now }
     requires sides { IsTrue (is_item t.now item) }
-    requires fine { IsFine (claims_in t.now facts.now) (claim_of_item t.now item) }
-    ensures { result ≡ unless_refused (demand (claim_given (claims_in t.now facts.now) (claim_of_item t.now item)) B7 at) tt }
+    requires fine { IsFine (claims_in t.now (told facts.now)) (claim_of_item t.now item) }
+    ensures { result ≡ unless_refused (demand (claim_given (claims_in t.now (told facts.now)) (claim_of_item t.now item)) B7 at) tt }
 {
     let (left, op, right) = item;
     if gives_sides(t, facts, left, op, right) {
@@ -203,10 +204,10 @@ fn inside_text(text_at: Place, offset: u8) -> Place
 }
 
 // What is given for letters has values, in written order.
-fn check_given(t: &Typed, facts: &[Fact], given: &[(TextId, ExprId)]) -> Result<(), Refusal>
-    requires known { AreFacts t.now facts.now }
+fn check_given(t: &Typed, facts: &Known, given: &[(TextId, ExprId)]) -> Result<(), Refusal>
+    requires known { IsKnown t.now facts.now }
     requires given { All (λ g. is_given_number t.now g ≡ true) given.now }
-    ensures { result ≡ unless_refused (given_refusal (claims_in t.now facts.now) (given_trees t.now given.now)) tt }
+    ensures { result ≡ unless_refused (given_refusal (claims_in t.now (told facts.now)) (given_trees t.now given.now)) tt }
 {
     for i in 0..given.len() {
         check_number(t, facts, given[i].1)?;
@@ -215,20 +216,20 @@ fn check_given(t: &Typed, facts: &[Fact], given: &[(TextId, ExprId)]) -> Result<
 }
 
 // A number has a value.
-fn check_number(t: &Typed, facts: &[Fact], e: ExprId) -> Result<(), Refusal>
-    requires known { AreFacts t.now facts.now }
+fn check_number(t: &Typed, facts: &Known, e: ExprId) -> Result<(), Refusal>
+    requires known { IsKnown t.now facts.now }
     requires number { IsTrue (is_number_at t.now e) }
-    ensures { result ≡ unless_refused (num_refusal (claims_in t.now facts.now) false (node_number t.now e)) tt }
+    ensures { result ≡ unless_refused (num_refusal (claims_in t.now (told facts.now)) false (node_number t.now e)) tt }
 {
     look_at(t, e);
     check_value(t, facts, e)
 }
 
 // A condition has a value.
-fn check_condition(t: &Typed, facts: &[Fact], e: ExprId) -> Result<(), Refusal>
-    requires known { AreFacts t.now facts.now }
+fn check_condition(t: &Typed, facts: &Known, e: ExprId) -> Result<(), Refusal>
+    requires known { IsKnown t.now facts.now }
     requires condition { IsTrue (is_condition_at t.now e) }
-    ensures { result ≡ unless_refused (cond_refusal (claims_in t.now facts.now) (node_cond t.now e)) tt }
+    ensures { result ≡ unless_refused (cond_refusal (claims_in t.now (told facts.now)) (node_cond t.now e)) tt }
 {
     look_at(t, e);
     check_value(t, facts, e)

@@ -4,7 +4,8 @@ ghost use Rattle.std.specs.Prelude.{◌≡◌, IsTrue, None, true};
 ghost use Rattle.wf_ast.specs.TypedTrees.{target_of, tree_of, type_of_node};
 ghost use Rattle.wf_ast.specs.TypedInvariant.{is_expr};
 ghost use Rattle.wf_ast.specs.NodeKinds.{is_number_at, node_number};
-ghost use Rattle.wf_facts_exprs.specs.Claims.{claims_in, AreFacts};
+ghost use Rattle.wf_facts_exprs.specs.Knowledge.{IsKnown, told};
+ghost use Rattle.wf_facts_exprs.specs.Claims.{claims_in};
 ghost use Rattle.wf_facts_exprs.specs.Demands.{unless_refused};
 ghost use Rattle.wf_facts.specs.IndexedFacts.{IsOver};
 ghost use Rattle.wf_bounds_stmts.specs.Targets.{assign_refusal, assigned, known_equal, written_by};
@@ -15,20 +16,20 @@ use crate::limits::{check_range, checked, is_number, look_at};
 use crate::targets::{check_target, drop_written, number_variable, taken, written};
 use wf_ast::{ExprId, Thing, Typed, mentions};
 use wf_facts::{Facts, Full};
-use wf_facts_exprs::{Cmp, Fact, Side};
+use wf_facts_exprs::{Cmp, Fact, Known, Side};
 use wf_text::{Place, Refusal, Rule};
 
 /// Checks what an assignment requires.
 pub(crate) fn check_assigned(
     t: &Typed,
-    facts: &[Fact],
+    facts: &Known,
     target: ExprId,
     value: ExprId,
 ) -> Result<(), Refusal>
-    requires known { AreFacts t.now facts.now }
+    requires known { IsKnown t.now facts.now }
     requires target { IsTrue (is_expr t.now target) }
     requires value { IsTrue (is_expr t.now value) }
-    ensures { result ≡ unless_refused (assign_refusal (claims_in t.now facts.now) (target_of (tree_of t.now target)) (tree_of t.now value)) tt }
+    ensures { result ≡ unless_refused (assign_refusal (claims_in t.now (told facts.now)) (target_of (tree_of t.now target)) (tree_of t.now value)) tt }
 {
     let range = checked(t, facts, value)?;
     check_target(t, facts, target)?;
@@ -108,10 +109,10 @@ pub(crate) fn assign(
     ensures over { IsOver t.now facts.new }
     ensures answers { Answers t.now at (assign_refusal (claims_in t.now facts.old.list) (target_of (tree_of t.now target)) (tree_of t.now value)) (assigned (claims_in t.now facts.old.list) (target_of (tree_of t.now target)) None (tree_of t.now value)) result facts.new }
 {
-    check_assigned(t, facts.as_slice(), target, value)?;
+    check_assigned(t, &facts.as_known(t), target, value)?;
     let x = written(t, target);
     drop_written(t, facts, x);
     know_written(t, facts, target, x, value).map_err(|_| Refusal { rule: Rule::L8, at })?;
-    let _few = facts.len();
+    facts.keeps_limit();
     Ok(())
 }

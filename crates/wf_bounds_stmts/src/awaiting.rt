@@ -63,6 +63,6 @@ pub(crate) fn await_handed(
     ensures over { IsOver t.now facts.new }
     ensures settles { Settles t.now (or_else (all_handed B8 (claims_in t.now facts.old.list) ((numbers_of width, tree_of t.now e) ∷ [])) (answer_refusal (interrupted (claims_in t.now facts.old.list)) at (optional_target (tree_of t.now) target) None)) (awaited (claims_in t.now facts.old.list) (optional_target (tree_of t.now) target)) result facts.new }
 {
-    check_one(t, facts.as_slice(), Rule::B8, all_of(width), e)?;
+    check_one(t, &facts.as_known(t), Rule::B8, all_of(width), e)?;
     await_answer(t, facts, at, target, Ty::Flag)
 }

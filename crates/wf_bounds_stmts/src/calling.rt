@@ -54,9 +54,9 @@ pub(crate) fn invoke(
     ensures settles { Settles t.now (or_else (all_handed B8 (known_to_call call.entry.keep mark (claims_in t.now facts.old.list)) (handed_to (map (λ x. x.ty) taken.now) (map (tree_of t.now) call.entry.args.now))) (answer_refusal (left_by_call call.entry.keep mark (map (tree_of t.now) call.entry.args.now) (claims_in t.now facts.old.list)) call.entry.at (optional_target (tree_of t.now) call.entry.target) (number_type answers))) (invoked (claims_in t.now facts.old.list) (optional_target (tree_of t.now) call.entry.target) call.entry.keep mark (map (tree_of t.now) call.entry.args.now)) result facts.new }
 {
     enter_call(t, facts, call.keep, mark);
-    check_arguments(t, facts.as_slice(), taken, call.args)?;
+    check_arguments(t, &facts.as_known(t), taken, call.args)?;
     leave_call(t, facts, call.keep, mark, call.args);
-    check_answer(t, facts.as_slice(), call.at, call.target, answers)?;
+    check_answer(t, &facts.as_known(t), call.at, call.target, answers)?;
     drop_target(t, facts, call.target);
     Ok(())
 }

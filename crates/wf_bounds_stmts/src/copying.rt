@@ -6,7 +6,8 @@ ghost use Rattle.wf_ast.specs.TypedTree.{copy_to_writer, copy_to_slice, elements
 ghost use Rattle.wf_ast.specs.TypedTrees.{optional_target, tree_of};
 ghost use Rattle.wf_ast.specs.TypedInvariant.{is_expr, is_optional_expr};
 ghost use Rattle.wf_ast.specs.NodeKinds.{node_slice};
-ghost use Rattle.wf_facts_exprs.specs.Claims.{claims_in, AreFacts};
+ghost use Rattle.wf_facts_exprs.specs.Knowledge.{IsKnown, told};
+ghost use Rattle.wf_facts_exprs.specs.Claims.{claims_in};
 ghost use Rattle.wf_facts_exprs.specs.Demands.{or_else, unless_refused, value_refusal};
 ghost use Rattle.wf_facts.specs.IndexedFacts.{IsOver};
 ghost use Rattle.wf_bounds_stmts.specs.Requirements.{all_handed};
@@ -19,7 +20,7 @@ use crate::handed::check_one;
 use wf_ast::{ArgId, ExprId, Thing, Ty, Typed};
 use wf_base::Width;
 use wf_facts::Facts;
-use wf_facts_exprs::{Fact, check_value};
+use wf_facts_exprs::{Known, check_value};
 use wf_text::{Place, Refusal, Rule};
 
 // What a copy answers: how many elements it has copied.
@@ -46,9 +47,9 @@ pub(crate) fn copy_out(
     ensures over { IsOver t.now facts.new }
     ensures settles { Settles t.now (perform_refusal (claims_in t.now facts.old.list) at (optional_target (tree_of t.now) target) (copy_to_writer io.0 (node_slice t.now source))) (performed (claims_in t.now facts.old.list) (optional_target (tree_of t.now) target) (copy_to_writer io.0 (node_slice t.now source))) result facts.new }
 {
-    check_one(t, facts.as_slice(), Rule::B8, Ty::Flag, source)?;
+    check_one(t, &facts.as_known(t), Rule::B8, Ty::Flag, source)?;
     facts.drop_mentions(t, Thing::Arg(io));
-    check_answer(t, facts.as_slice(), at, target, COUNT)?;
+    check_answer(t, &facts.as_known(t), at, target, COUNT)?;
     drop_target(t, facts, target);
     Ok(())
 }
@@ -72,19 +73,19 @@ pub(crate) fn copy_in(
     ensures over { IsOver t.now facts.new }
     ensures settles { Settles t.now (perform_refusal (claims_in t.now facts.old.list) at (optional_target (tree_of t.now) target) (copy_to_slice (node_slice t.now on) (node_slice t.now source))) (performed (claims_in t.now facts.old.list) (optional_target (tree_of t.now) target) (copy_to_slice (node_slice t.now on) (node_slice t.now source))) result facts.new }
 {
-    check_copied(t, facts.as_slice(), on, source)?;
+    check_copied(t, &facts.as_known(t), on, source)?;
     facts.drop_mentions(t, Thing::Element);
-    check_answer(t, facts.as_slice(), at, target, COUNT)?;
+    check_answer(t, &facts.as_known(t), at, target, COUNT)?;
     drop_target(t, facts, target);
     Ok(())
 }
 
 // The two slices of a copy.
-fn check_copied(t: &Typed, facts: &[Fact], on: ExprId, source: ExprId) -> Result<(), Refusal>
-    requires known { AreFacts t.now facts.now }
+fn check_copied(t: &Typed, facts: &Known, on: ExprId, source: ExprId) -> Result<(), Refusal>
+    requires known { IsKnown t.now facts.now }
     requires on { IsTrue (is_expr t.now on) }
     requires source { IsTrue (is_expr t.now source) }
-    ensures { result ≡ unless_refused (or_else (value_refusal (claims_in t.now facts.now) (tree_of t.now on)) (all_handed B8 (claims_in t.now facts.now) ((None, tree_of t.now source) ∷ []))) tt }
+    ensures { result ≡ unless_refused (or_else (value_refusal (claims_in t.now (told facts.now)) (tree_of t.now on)) (all_handed B8 (claims_in t.now (told facts.now)) ((None, tree_of t.now source) ∷ []))) tt }
 {
     check_value(t, facts, on)?;
     check_one(t, facts, Rule::B8, Ty::Flag, source)

@@ -8,7 +8,8 @@ ghost use Rattle.wf_ast.specs.TypedTree.{skip_fast as skip_tree, write_fast as w
 ghost use Rattle.wf_ast.specs.TypedTrees.{io_in, optional_target, tree_of, type_of_node};
 ghost use Rattle.wf_ast.specs.TypedInvariant.{is_expr, is_io, is_optional_expr};
 ghost use Rattle.wf_ast.specs.NodeKinds.{is_number_at, node_number};
-ghost use Rattle.wf_facts_exprs.specs.Claims.{claims_in, is_side, order_of, side_in, AreFacts};
+ghost use Rattle.wf_facts_exprs.specs.Knowledge.{IsKnown, told};
+ghost use Rattle.wf_facts_exprs.specs.Claims.{claims_in, is_side, order_of, side_in};
 ghost use Rattle.wf_facts_exprs.specs.Given.{gives_sides as sides_given};
 ghost use Rattle.wf_facts_exprs.specs.Demands.{demand, or_else, side_refusal, unless_refused};
 ghost use Rattle.wf_facts.specs.IndexedFacts.{IsOver};
@@ -26,7 +27,7 @@ use crate::stepping::number;
 use wf_ast::{ArgId, ExprId, Thing, Ty, Typed};
 use wf_base::Width;
 use wf_facts::Facts;
-use wf_facts_exprs::{Cmp, Fact, Side, gives_sides};
+use wf_facts_exprs::{Cmp, Known, Side, gives_sides};
 use wf_text::{Place, Refusal, Rule};
 
 /// A skip that doesn't suspend: the reader, how many bytes it takes, and how many it needs.
@@ -55,7 +56,7 @@ pub(crate) fn skip_fast(
     ensures over { IsOver t.now facts.new }
     ensures settles { Settles t.now (perform_refusal (claims_in t.now facts.old.list) at (optional_target (tree_of t.now) target) (skip_tree (io_in (tree_of t.now skip.on)) (node_number t.now skip.actual) (node_number t.now skip.worst_case))) (performed (claims_in t.now facts.old.list) (optional_target (tree_of t.now) target) (skip_tree (io_in (tree_of t.now skip.on)) (node_number t.now skip.actual) (node_number t.now skip.worst_case))) result facts.new }
 {
-    check_skip(t, facts.as_slice(), at, skip)?;
+    check_skip(t, &facts.as_known(t), at, skip)?;
     facts.lower_length(t, io_of(t, skip.on), number(t, skip.worst_case));
     take_answer(t, facts, at, target)
 }
@@ -78,19 +79,19 @@ pub(crate) fn write_fast(
     ensures over { IsOver t.now facts.new }
     ensures settles { Settles t.now (perform_refusal (claims_in t.now facts.old.list) at (optional_target (tree_of t.now) target) (write_tree (io_in (tree_of t.now on)) (node_number t.now byte))) (performed (claims_in t.now facts.old.list) (optional_target (tree_of t.now) target) (write_tree (io_in (tree_of t.now on)) (node_number t.now byte))) result facts.new }
 {
-    check_write(t, facts.as_slice(), at, on, byte)?;
+    check_write(t, &facts.as_known(t), at, on, byte)?;
     facts.lower_length(t, io_of(t, on), Some(1));
     take_answer(t, facts, at, target)
 }
 
 // What a skip is handed, and then its two premises.
-fn check_skip(t: &Typed, facts: &[Fact], at: Place, skip: FastSkip) -> Result<(), Refusal>
-    requires known { AreFacts t.now facts.now }
+fn check_skip(t: &Typed, facts: &Known, at: Place, skip: FastSkip) -> Result<(), Refusal>
+    requires known { IsKnown t.now facts.now }
     requires on_there { IsTrue (is_expr t.now skip.on) }
     requires on { type_of_node t.now skip.on.0 ≡ types.Reader }
     requires actual { is_number_at t.now skip.actual ≡ true }
     requires worst_case { is_number_at t.now skip.worst_case ≡ true }
-    ensures { result ≡ unless_refused (or_else (all_handed B8 (claims_in t.now facts.now) (handed_to_written (skip_tree (io_in (tree_of t.now skip.on)) (node_number t.now skip.actual) (node_number t.now skip.worst_case)))) (premise_refusal (claims_in t.now facts.now) at (skip_tree (io_in (tree_of t.now skip.on)) (node_number t.now skip.actual) (node_number t.now skip.worst_case)))) tt }
+    ensures { result ≡ unless_refused (or_else (all_handed B8 (claims_in t.now (told facts.now)) (handed_to_written (skip_tree (io_in (tree_of t.now skip.on)) (node_number t.now skip.actual) (node_number t.now skip.worst_case)))) (premise_refusal (claims_in t.now (told facts.now)) at (skip_tree (io_in (tree_of t.now skip.on)) (node_number t.now skip.actual) (node_number t.now skip.worst_case)))) tt }
 {
     let FastSkip {
         on,
@@ -107,18 +108,12 @@ fn check_skip(t: &Typed, facts: &[Fact], at: Place, skip: FastSkip) -> Result<()
 }
 
 // What a write is handed, and then its premise.
-fn check_write(
-    t: &Typed,
-    facts: &[Fact],
-    at: Place,
-    on: ExprId,
-    byte: ExprId,
-) -> Result<(), Refusal>
-    requires known { AreFacts t.now facts.now }
+fn check_write(t: &Typed, facts: &Known, at: Place, on: ExprId, byte: ExprId) -> Result<(), Refusal>
+    requires known { IsKnown t.now facts.now }
     requires on_there { IsTrue (is_expr t.now on) }
     requires on { type_of_node t.now on.0 ≡ types.Writer }
     requires byte { is_number_at t.now byte ≡ true }
-    ensures { result ≡ unless_refused (or_else (all_handed B8 (claims_in t.now facts.now) (handed_to_written (write_tree (io_in (tree_of t.now on)) (node_number t.now byte)))) (premise_refusal (claims_in t.now facts.now) at (write_tree (io_in (tree_of t.now on)) (node_number t.now byte)))) tt }
+    ensures { result ≡ unless_refused (or_else (all_handed B8 (claims_in t.now (told facts.now)) (handed_to_written (write_tree (io_in (tree_of t.now on)) (node_number t.now byte)))) (premise_refusal (claims_in t.now (told facts.now)) at (write_tree (io_in (tree_of t.now on)) (node_number t.now byte)))) tt }
 {
     look_at(t, on);
     look_at(t, byte);
@@ -129,18 +124,18 @@ fn check_write(
 // A premise has to be given.
 fn check_given(
     t: &Typed,
-    facts: &[Fact],
+    facts: &Known,
     at: Place,
     left: Side,
     op: Cmp,
     right: Side,
 ) -> Result<(), Refusal>
-    requires known { AreFacts t.now facts.now }
+    requires known { IsKnown t.now facts.now }
     requires left { IsTrue (is_side t.now left) }
     requires right { IsTrue (is_side t.now right) }
-    requires left_fine { side_refusal (claims_in t.now facts.now) (side_in t.now left) ≡ None }
-    requires right_fine { side_refusal (claims_in t.now facts.now) (side_in t.now right) ≡ None }
-    ensures { result ≡ unless_refused (demand (sides_given (claims_in t.now facts.now) (side_in t.now left) (order_of op) (side_in t.now right)) B9 at) tt }
+    requires left_fine { side_refusal (claims_in t.now (told facts.now)) (side_in t.now left) ≡ None }
+    requires right_fine { side_refusal (claims_in t.now (told facts.now)) (side_in t.now right) ≡ None }
+    ensures { result ≡ unless_refused (demand (sides_given (claims_in t.now (told facts.now)) (side_in t.now left) (order_of op) (side_in t.now right)) B9 at) tt }
 {
     if gives_sides(t, facts, left, op, right) {
         Ok(())
@@ -162,7 +157,7 @@ fn take_answer(
     ensures over { IsOver t.now facts.new }
     ensures settles { Settles t.now (answer_refusal (claims_in t.now facts.old.list) at (optional_target (tree_of t.now) target) None) (unwritten (optional_target (tree_of t.now) target) (claims_in t.now facts.old.list)) result facts.new }
 {
-    check_answer(t, facts.as_slice(), at, target, Ty::Flag)?;
+    check_answer(t, &facts.as_known(t), at, target, Ty::Flag)?;
     drop_target(t, facts, target);
     Ok(())
 }

@@ -8,26 +8,27 @@ ghost use Rattle.wf_bounds_stmts.specs.Calls.{handed_to};
 ghost use Rattle.wf_ast.specs.StatementOrder.{stands_before as place_before};
 ghost use Rattle.wf_ast.specs.TypedTrees.{tree_of};
 ghost use Rattle.wf_ast.specs.TypedInvariant.{is_expr};
-ghost use Rattle.wf_facts_exprs.specs.Claims.{claims_in, AreFacts};
+ghost use Rattle.wf_facts_exprs.specs.Knowledge.{IsKnown, told};
+ghost use Rattle.wf_facts_exprs.specs.Claims.{claims_in};
 ghost use Rattle.wf_bounds_stmts.specs.Requirements.{all_handed, handed_refusal, number_type, place_of, placed, written_first as first_written};
 
 use crate::limits::check_lies;
 use crate::places::place;
 use wf_ast::{ExprId, Ty, Typed, Var};
-use wf_facts_exprs::{Fact, check_value};
+use wf_facts_exprs::{Known, check_value};
 use wf_text::{Place, Refusal, Rule};
 
 /// What is refused of a value that is handed to a type, with the value's place.
 pub(crate) fn refused(
     t: &Typed,
-    facts: &[Fact],
+    facts: &Known,
     rule: Rule,
     ty: Ty,
     e: ExprId,
 ) -> Option<(Place, Refusal)>
-    requires known { AreFacts t.now facts.now }
+    requires known { IsKnown t.now facts.now }
     requires there { IsTrue (is_expr t.now e) }
-    ensures { result ≡ placed (place_of (tree_of t.now e)) (handed_refusal rule (claims_in t.now facts.now) (number_type ty, tree_of t.now e)) }
+    ensures { result ≡ placed (place_of (tree_of t.now e)) (handed_refusal rule (claims_in t.now (told facts.now)) (number_type ty, tree_of t.now e)) }
 {
     match check_value(t, facts, e) {
         Ok(()) => match check_lies(t, facts, rule, ty, e) {
@@ -68,14 +69,14 @@ fn stands_before(a: Place, b: Place) -> bool
 /// Checks one value that is handed over.
 pub(crate) fn check_one(
     t: &Typed,
-    facts: &[Fact],
+    facts: &Known,
     rule: Rule,
     ty: Ty,
     e: ExprId,
 ) -> Result<(), Refusal>
-    requires known { AreFacts t.now facts.now }
+    requires known { IsKnown t.now facts.now }
     requires there { IsTrue (is_expr t.now e) }
-    ensures { result ≡ unless_refused (all_handed rule (claims_in t.now facts.now) ((number_type ty, tree_of t.now e) ∷ [])) tt }
+    ensures { result ≡ unless_refused (all_handed rule (claims_in t.now (told facts.now)) ((number_type ty, tree_of t.now e) ∷ [])) tt }
 {
     found(refused(t, facts, rule, ty, e))
 }
@@ -83,16 +84,16 @@ pub(crate) fn check_one(
 /// Checks two values that are handed over.
 pub(crate) fn check_two(
     t: &Typed,
-    facts: &[Fact],
+    facts: &Known,
     rule: Rule,
     ty: Ty,
     a: ExprId,
     b: ExprId,
 ) -> Result<(), Refusal>
-    requires known { AreFacts t.now facts.now }
+    requires known { IsKnown t.now facts.now }
     requires first { IsTrue (is_expr t.now a) }
     requires second { IsTrue (is_expr t.now b) }
-    ensures { result ≡ unless_refused (all_handed rule (claims_in t.now facts.now) ((number_type ty, tree_of t.now a) ∷ (number_type ty, tree_of t.now b) ∷ [])) tt }
+    ensures { result ≡ unless_refused (all_handed rule (claims_in t.now (told facts.now)) ((number_type ty, tree_of t.now a) ∷ (number_type ty, tree_of t.now b) ∷ [])) tt }
 {
     let first = refused(t, facts, rule, ty, a);
     found(written_first(first, refused(t, facts, rule, ty, b)))
@@ -111,14 +112,14 @@ fn found(refusal: Option<(Place, Refusal)>) -> Result<(), Refusal>
 /// Checks the arguments of a call, each within the type that the method declares.
 pub(crate) fn check_arguments(
     t: &Typed,
-    facts: &[Fact],
+    facts: &Known,
     taken: &[Var],
     args: &[ExprId],
 ) -> Result<(), Refusal>
-    requires known { AreFacts t.now facts.now }
+    requires known { IsKnown t.now facts.now }
     requires there { IsTrue (list_all (is_expr t.now) args.now) }
     requires all { length args.now ≡ length taken.now }
-    ensures { result ≡ unless_refused (all_handed B8 (claims_in t.now facts.now) (handed_to (map (λ x. x.ty) taken.now) (map (tree_of t.now) args.now))) tt }
+    ensures { result ≡ unless_refused (all_handed B8 (claims_in t.now (told facts.now)) (handed_to (map (λ x. x.ty) taken.now) (map (tree_of t.now) args.now))) tt }
 {
     let mut first = None;
     for i in 0..args.len() {

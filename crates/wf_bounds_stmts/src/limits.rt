@@ -3,38 +3,39 @@
 ghost use Rattle.std.specs.Prelude.{◌≡◌, ℕ, List, IsTrue, None, Some};
 ghost use Rattle.wf_ast.specs.TypedTrees.{tree_of, type_of_node};
 ghost use Rattle.wf_ast.specs.TypedInvariant.{is_expr, is_numeric, is_tree_of};
-ghost use Rattle.wf_facts_exprs.specs.Claims.{Claim, claims_in, AreFacts};
+ghost use Rattle.wf_facts_exprs.specs.Knowledge.{IsKnown, told};
+ghost use Rattle.wf_facts_exprs.specs.Claims.{Claim, claims_in};
 ghost use Rattle.wf_facts_exprs.specs.Demands.{unless_refused, value_refusal};
 ghost use Rattle.wf_bounds_stmts.specs.Requirements.{lies_in as range_lies_in, lies_refusal, number_type, range_in};
 
 use crate::places::place;
 use wf_ast::{ExprId, Ty, Typed};
-use wf_facts_exprs::{Fact, check_value, checked_range, range_of};
+use wf_facts_exprs::{Known, check_value, checked_range, range_of};
 use wf_num::Range;
 use wf_text::{Refusal, Rule};
 
 /// Checks that a number, whose demands are met, lies in a type, if that is one of numbers.
 pub(crate) fn check_lies(
     t: &Typed,
-    facts: &[Fact],
+    facts: &Known,
     rule: Rule,
     ty: Ty,
     e: ExprId,
 ) -> Result<(), Refusal>
-    requires known { AreFacts t.now facts.now }
+    requires known { IsKnown t.now facts.now }
     requires there { IsTrue (is_expr t.now e) }
-    requires fine { value_refusal (claims_in t.now facts.now) (tree_of t.now e) ≡ None }
-    ensures { result ≡ unless_refused (lies_refusal rule (claims_in t.now facts.now) (number_type ty) (tree_of t.now e)) tt }
+    requires fine { value_refusal (claims_in t.now (told facts.now)) (tree_of t.now e) ≡ None }
+    ensures { result ≡ unless_refused (lies_refusal rule (claims_in t.now (told facts.now)) (number_type ty) (tree_of t.now e)) tt }
 {
     check_range(t, rule, ty, e, range_where_number(t, facts, e))
 }
 
 // The range of a value whose demands are met, if it is a number.
-fn range_where_number(t: &Typed, facts: &[Fact], e: ExprId) -> Option<Range>
-    requires known { AreFacts t.now facts.now }
+fn range_where_number(t: &Typed, facts: &Known, e: ExprId) -> Option<Range>
+    requires known { IsKnown t.now facts.now }
     requires there { IsTrue (is_expr t.now e) }
-    requires fine { value_refusal (claims_in t.now facts.now) (tree_of t.now e) ≡ None }
-    ensures { result ≡ range_in (claims_in t.now facts.now) (tree_of t.now e) }
+    requires fine { value_refusal (claims_in t.now (told facts.now)) (tree_of t.now e) ≡ None }
+    ensures { result ≡ range_in (claims_in t.now (told facts.now)) (tree_of t.now e) }
 {
     look_at(t, e);
     if is_number(t.type_of(e)) {
@@ -45,10 +46,10 @@ fn range_where_number(t: &Typed, facts: &[Fact], e: ExprId) -> Option<Range>
 }
 
 /// Checks what a value requires, and answers its range where it is a number.
-pub(crate) fn checked(t: &Typed, facts: &[Fact], e: ExprId) -> Result<Option<Range>, Refusal>
-    requires known { AreFacts t.now facts.now }
+pub(crate) fn checked(t: &Typed, facts: &Known, e: ExprId) -> Result<Option<Range>, Refusal>
+    requires known { IsKnown t.now facts.now }
     requires there { IsTrue (is_expr t.now e) }
-    ensures { result ≡ unless_refused (value_refusal (claims_in t.now facts.now) (tree_of t.now e)) (range_in (claims_in t.now facts.now) (tree_of t.now e)) }
+    ensures { result ≡ unless_refused (value_refusal (claims_in t.now (told facts.now)) (tree_of t.now e)) (range_in (claims_in t.now (told facts.now)) (tree_of t.now e)) }
 {
     look_at(t, e);
     if is_number(t.type_of(e)) {

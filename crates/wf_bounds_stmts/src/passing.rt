@@ -67,7 +67,7 @@ pub fn pass(t: &Typed, m: MethodId, facts: &mut Facts, s: StmtId) -> Result<bool
         Stmt::Break(w) => leaves(at_break(facts, t, *w, at)),
         Stmt::Continue(w) => leaves(way_back(facts, t, *w, at)),
         Stmt::Return(value) => {
-            leaves(check_returned(t, facts.as_slice(), t.method(m).gives, *value))
+            leaves(check_returned(t, &facts.as_known(t), t.method(m).gives, *value))
         }
         Stmt::Yield(_) => {
             interrupt(t, facts);
@@ -121,7 +121,7 @@ fn is_arithmetic(op: Option<Op>) -> bool
 fn after(facts: &Facts, answer: Result<(), Refusal>) -> Result<bool, Refusal>
     ensures { (nodes : TypedNodes) (at : Place) (refusal : Option Refusal) (known : Known) → Told nodes at refusal known answer facts.now → Passes nodes at refusal known result facts.now }
 {
-    let _few = facts.len();
+    facts.keeps_limit();
     answer?;
     Ok(true)
 }

@@ -38,7 +38,7 @@ pub(crate) fn assign_by(
     ensures over { IsOver t.now facts.new }
     ensures settles { (op : Arith) → Settles t.now (assign_refusal (claims_in t.now facts.old.list) (target_of (tree_of t.now target)) (tree_of t.now value)) (assigned (claims_in t.now facts.old.list) (target_of (tree_of t.now target)) (Some op) (tree_of t.now value)) result facts.new }
 {
-    check_assigned(t, facts.as_slice(), target, value)?;
+    check_assigned(t, &facts.as_known(t), target, value)?;
     let x = written(t, target);
     match number_variable(t.type_of(target), x) {
         Some(x) => step_variable(t, facts, target, x, value),

@@ -3,7 +3,8 @@
 ghost use Rattle.std.specs.Prelude.{◌≡◌, IsTrue};
 ghost use Rattle.wf_ast.specs.TypedTrees.{target_of, tree_of, type_of_node};
 ghost use Rattle.wf_ast.specs.TypedInvariant.{is_expr};
-ghost use Rattle.wf_facts_exprs.specs.Claims.{claims_in, AreFacts};
+ghost use Rattle.wf_facts_exprs.specs.Knowledge.{IsKnown, told};
+ghost use Rattle.wf_facts_exprs.specs.Claims.{claims_in};
 ghost use Rattle.wf_facts_exprs.specs.Demands.{unless_refused};
 ghost use Rattle.wf_facts.specs.IndexedFacts.{IsOver};
 ghost use Rattle.wf_bounds_stmts.specs.Requirements.{number_type};
@@ -13,7 +14,7 @@ ghost use Rattle.wf_bounds_stmts.specs.Outcomes.{MayBeDropped};
 
 use wf_ast::{Expr, ExprId, Thing, Ty, Typed};
 use wf_facts::Facts;
-use wf_facts_exprs::{Fact, check_value};
+use wf_facts_exprs::{Known, check_value};
 use wf_text::Refusal;
 
 /// What an expression writes where it is a target.
@@ -78,10 +79,10 @@ pub(crate) fn taken(t: &Typed, target: ExprId) -> Ty
 }
 
 /// Checks a target's index, which has to be below the length.
-pub(crate) fn check_target(t: &Typed, facts: &[Fact], target: ExprId) -> Result<(), Refusal>
-    requires known { AreFacts t.now facts.now }
+pub(crate) fn check_target(t: &Typed, facts: &Known, target: ExprId) -> Result<(), Refusal>
+    requires known { IsKnown t.now facts.now }
     requires there { IsTrue (is_expr t.now target) }
-    ensures { result ≡ unless_refused (target_refusal (claims_in t.now facts.now) (target_of (tree_of t.now target))) tt }
+    ensures { result ≡ unless_refused (target_refusal (claims_in t.now (told facts.now)) (target_of (tree_of t.now target))) tt }
 {
     let x = written(t, target);
     if is_element(x) {

@@ -1,41 +1,23 @@
 -- Facts come into the list.
-use Rattle.std.proofs.Common.{◌≡◌, ℕ, zero, suc, ◌+◌, ◌<◌, ◌≤◌, Bool, true, false, not, ◌&&◌, ◌||◌, List, [], ◌∷◌, ◌++◌, length, get_or, take, drop, map, refl, sym, ap, ◌∙◌, subst, arith}
+use Rattle.std.proofs.Common.{◌≡◌, ℕ, suc, ◌+◌, ◌<◌, ◌≤◌, Bool, true, false, not, ◌&&◌, ◌||◌, List, [], ◌∷◌, ◌++◌, length, get_or, take, map, refl, sym, ap, ◌∙◌, subst, arith}
 use Rattle.std.specs.Prelude.{filter, nat_eq}
-use Rattle.std.proofs.lemmas.List.{take_more, drop_more, length-take-le, length-map, map-append}
+use Rattle.std.proofs.lemmas.Bool.Decides.{nat_tests}
+use Rattle.std.proofs.lemmas.List.{take_more, length-take-le, length-map, map-append}
 use Rattle.std.proofs.lemmas.List.Elements.{All-push}
+use Rattle.wf_ast.specs.declared.variables.FieldId.{FieldId}
 use Rattle.wf_ast.specs.declared.things.Thing.{Thing}
 use Rattle.wf_ast.specs.declared.things.Thing.TheVariants as things
 use Rattle.wf_ast.specs.declared.typed_nodes.TypedNodes.{TypedNodes}
 use Rattle.wf_facts_exprs.specs.declared.facts.Fact.{Fact}
-use Rattle.wf_facts_exprs.specs.Claims.{Claim, claim_in, claims_in, claim_mentions, same_claim, is_among, is_fact}
-use Rattle.wf_facts.specs.declared.sets.FactSet.{FactSet}
-use Rattle.wf_facts.specs.Sets.{member, members, IsSetOf, unmarked}
+use Rattle.wf_facts_exprs.specs.Claims.{Claim, claim_in, claims_in, claim_mentions, is_among, is_fact}
+use Rattle.wf_facts_exprs.specs.declared.sets.FactSet.{FactSet}
+use Rattle.wf_facts_exprs.specs.Heads.{claim_head, having_head}
+use Rattle.wf_facts_exprs.specs.NumberedSets.{Marks, words_at}
+use Rattle.wf_facts_exprs.specs.Sets.{member, members, IsAround, IsSetOf, Within, unmarked}
 use Rattle.wf_facts.specs.FactLists.{common}
-use Rattle.wf_facts.specs.IndexedFacts.{FactList, IsOver, has_set, set_number, set_of, mentioning, words_at, thing_of}
-use Rattle.wf_facts.proofs.SetLemmas.{members_known, IsSetOf-put}
-use Rattle.wf_facts.proofs.DropLemmas.{length-mentioning, number_below}
-
--- A look through a list.
-among_next : (nodes : TypedNodes) (fs : List Fact) (i : ℕ) (d : Fact) (c : Claim) → i < length fs
-    → is_among (claims_in nodes (drop i fs)) c ≡ (same_claim (claim_in nodes (get_or fs i d)) c || is_among (claims_in nodes (drop (i + 1) fs)) c)
-among_next nodes fs i d c h = ap (λ gs. is_among (claims_in nodes gs) c) (drop_more fs i d h)
-
-pub among_found : (nodes : TypedNodes) (fs : List Fact) (i : ℕ) (d : Fact) (c : Claim) → i < length fs → is_among (claims_in nodes (drop i fs)) c ≡ is_among (claims_in nodes fs) c
-    → same_claim (claim_in nodes (get_or fs i d)) c ≡ true → true ≡ is_among (claims_in nodes fs) c
-among_found nodes fs i d c h left same = sym (sym left ∙ among_next nodes fs i d c h ∙ rw same refl)
-
-pub among_more : (nodes : TypedNodes) (fs : List Fact) (i : ℕ) (d : Fact) (c : Claim) → i < length fs → is_among (claims_in nodes (drop i fs)) c ≡ is_among (claims_in nodes fs) c
-    → same_claim (claim_in nodes (get_or fs i d)) c ≡ false → is_among (claims_in nodes (drop (i + 1) fs)) c ≡ is_among (claims_in nodes fs) c
-among_more nodes fs i d c h left other = sym (among_next nodes fs i d c h ∙ rw other refl) ∙ left
-
-pub among_at : (nodes : TypedNodes) (fs : List Fact) (i : ℕ) (d : Fact) (c : Claim) → i < length fs → same_claim (claim_in nodes (get_or fs i d)) c ≡ true → is_among (claims_in nodes fs) c ≡ true
-among_at nodes [] i d c h same = absurd (omega (arith, h))
-among_at nodes (f ∷ fs) zero d c h same = rw same refl
-among_at nodes (f ∷ fs) (suc i) d c h same = by (same_claim (claim_in nodes f) c) (among_at nodes fs i d c (omega (arith, h)) same)
-  where
-    by : (b : Bool) → is_among (claims_in nodes fs) c ≡ true → (b || is_among (claims_in nodes fs) c) ≡ true
-    by true there = refl
-    by false there = there
+use Rattle.wf_facts.specs.IndexedFacts.{Slots, AreOver, MarksThings, field_set, has_set, set_number, set_of, mentioning, thing_of}
+use Rattle.wf_facts_exprs.proofs.SetLemmas.{members_known, IsSetOf-put}
+use Rattle.wf_facts.proofs.DropLemmas.{length-mentioning, length-within, number_below}
 
 -- The marks of a test.
 pub marks-more : (p : Fact → Bool) (fs : List Fact) (i : ℕ) (d : Fact) → i < length fs → (words written : List ℕ) → IsSetOf words (map p (take i fs))
@@ -94,21 +76,64 @@ thing_back things.SliceLocals h = refl
 thing_back (things.Field x) h = absurd (cc (h))
 thing_back (things.Arg x) h = absurd (cc (h))
 
-pub IsOver-pushed : (nodes : TypedNodes) (old : FactList) (f : Fact) (list : List Fact) (sets before : List FactSet) (n : ℕ) → n ≡ length old.list → before ≡ old.sets → list ≡ old.list ++ f ∷ [] → is_fact nodes f ≡ true
-    → ((k : ℕ) → k < 260 → (j : ℕ) → j < 512 → member (words_at sets k) j ≡ ((nat_eq j n && claim_mentions (thing_of k) (claim_in nodes f)) || member (words_at before k) j))
-    → IsOver nodes old → IsOver nodes (record { list = list; sets = sets })
-IsOver-pushed nodes old f list sets before n count same more fact marks over =
-    let R : List Fact → Type 0 = λ fs. IsOver nodes (record { list = fs; sets = sets }) in
-    subst R (sym more) (record {
-      facts = All-push (λ g. is_fact nodes g ≡ true) old.list f over.facts fact;
-      sets = λ x h.
-          let k = set_number x in
-          let b = claim_mentions x (claim_in nodes f) in
-          let put : (j : ℕ) → j < 512 → member (words_at sets k) j ≡ ((nat_eq j (length (mentioning nodes x old.list)) && b) || member (set_of old x) j) = λ j low.
-          marks k (number_below x h) j low
-          ∙ ap (λ m. (nat_eq j m && claim_mentions (thing_of k) (claim_in nodes f)) || member (words_at before k) j) (count ∙ length-mentioning nodes x old.list)
-          ∙ ap (λ y. (nat_eq j (length (mentioning nodes x old.list)) && claim_mentions y (claim_in nodes f)) || member (words_at before k) j) (thing_back x h)
-          ∙ ap (λ ss. (nat_eq j (length (mentioning nodes x old.list)) && b) || member (words_at ss k) j) same in
-          let P : List Bool → Type 0 = IsSetOf (words_at sets k) in
-          subst P (sym (map-append (λ g. claim_mentions x (claim_in nodes g)) old.list (f ∷ []))) (IsSetOf-put (set_of old x) (words_at sets k) (mentioning nodes x old.list) b (over.sets x h) put);
-    })
+eq_turned : (m n : ℕ) → nat_eq m n ≡ nat_eq n m
+eq_turned m n = grind (arith, nat_tests)
+
+-- What is marked among others, and one more.
+within-push : (ms ws : List Bool) (m w : Bool) → Within ms ws → (m ≡ true → w ≡ true) → Within (ms ++ m ∷ []) (ws ++ w ∷ [])
+within-push [] [] m w h it = (it, tt)
+within-push (a ∷ ms) (b ∷ ws) m w h it = (h.0, within-push ms ws m w h.1 it)
+within-push [] (b ∷ ws) m w h it = absurd h
+within-push (a ∷ ms) [] m w h it = absurd h
+
+module _ (nodes : TypedNodes) (old : Slots) (f : Fact) (sets fields heads : List FactSet) (head : ℕ) (marks : MarksThings (length old.list) (λ x. claim_mentions x (claim_in nodes f)) old.sets old.fields sets fields)
+    (by_head : Marks (length old.list) (λ k. nat_eq k head) old.heads heads) (is : head ≡ claim_head (claim_in nodes f)) (over : AreOver nodes old) where
+  more_sets : (x : Thing) → has_set x ≡ true → IsSetOf (words_at sets (set_number x)) (mentioning nodes x (old.list ++ f ∷ []))
+  more_sets x h =
+      let k = set_number x in
+      let b = claim_mentions x (claim_in nodes f) in
+      let put : (j : ℕ) → j < 512 → member (words_at sets k) j ≡ ((nat_eq j (length (mentioning nodes x old.list)) && b) || member (set_of old x) j) = λ j low.
+      marks.things k (number_below x h) j low
+      ∙ ap (λ m. (nat_eq j m && claim_mentions (thing_of k) (claim_in nodes f)) || member (words_at old.sets k) j) (length-mentioning nodes x old.list)
+      ∙ ap (λ y. (nat_eq j (length (mentioning nodes x old.list)) && claim_mentions y (claim_in nodes f)) || member (words_at old.sets k) j) (thing_back x h) in
+      let P : List Bool → Type 0 = IsSetOf (words_at sets k) in
+      subst P (sym (map-append (λ g. claim_mentions x (claim_in nodes g)) old.list (f ∷ []))) (IsSetOf-put (set_of old x) (words_at sets k) (mentioning nodes x old.list) b (over.sets x h) put)
+
+  more_fields : (x : FieldId) → IsAround (words_at fields (field_set x)) (mentioning nodes (things.Field x) (old.list ++ f ∷ []))
+  more_fields x =
+      let around = over.fields x in
+      let m = marks.shared (field_set x) (omega arith) in
+      let long : length old.list ≡ length around.whole = length-mentioning nodes (things.Field x) old.list ∙ sym (length-within _ around.whole around.holds) in
+      let put : (j : ℕ) → j < 512 → member (words_at fields (field_set x)) j ≡ ((nat_eq j (length around.whole) && m.comes) || member (words_at old.fields (field_set x)) j) = λ j low.
+      m.places j low ∙ ap (λ n. (nat_eq j n && m.comes) || member (words_at old.fields (field_set x)) j) long in
+      let P : List Bool → Type 0 = λ ms. Within ms (around.whole ++ m.comes ∷ []) in
+      record {
+        whole = around.whole ++ m.comes ∷ [];
+        is = IsSetOf-put (words_at old.fields (field_set x)) (words_at fields (field_set x)) around.whole m.comes around.is put;
+        holds = subst P (sym (map-append (λ g. claim_mentions (things.Field x) (claim_in nodes g)) old.list (f ∷ [])))
+            (within-push (mentioning nodes (things.Field x) old.list) around.whole (claim_mentions (things.Field x) (claim_in nodes f)) m.comes around.holds (m.holds x refl));
+      }
+
+  more_heads : (h : ℕ) → h < 256 → IsSetOf (words_at heads h) (having_head nodes h (old.list ++ f ∷ []))
+  more_heads h low =
+      let b = nat_eq (claim_head (claim_in nodes f)) h in
+      let long : length old.list ≡ length (having_head nodes h old.list) = sym (length-map old.list _) in
+      let put : (j : ℕ) → j < 512 → member (words_at heads h) j ≡ ((nat_eq j (length (having_head nodes h old.list)) && b) || member (words_at old.heads h) j) = λ j few.
+      by_head h (omega (arith, low)) j few
+      ∙ ap (λ m. (nat_eq j m && nat_eq h head) || member (words_at old.heads h) j) long
+      ∙ ap (λ e. (nat_eq j (length (having_head nodes h old.list)) && e) || member (words_at old.heads h) j) (ap (nat_eq h) is ∙ eq_turned h (claim_head (claim_in nodes f))) in
+      let P : List Bool → Type 0 = IsSetOf (words_at heads h) in
+      subst P (sym (map-append (λ g. nat_eq (claim_head (claim_in nodes g)) h) old.list (f ∷ []))) (IsSetOf-put (words_at old.heads h) (words_at heads h) (having_head nodes h old.list) b (over.heads h low) put)
+
+  AreOver-more : is_fact nodes f ≡ true → AreOver nodes (record { list = old.list ++ f ∷ []; sets = sets; fields = fields; heads = heads })
+  AreOver-more fact = record { facts = All-push (λ g. is_fact nodes g ≡ true) old.list f over.facts fact; sets = more_sets; fields = more_fields; heads = more_heads }
+
+pub AreOver-pushed : (nodes : TypedNodes) (old mid : Slots) (f : Fact) (list : List Fact) (sets fields heads : List FactSet) (n head : ℕ) → mid ≡ old → n ≡ length old.list → list ≡ old.list ++ f ∷ [] → is_fact nodes f ≡ true
+    → MarksThings n (λ x. claim_mentions x (claim_in nodes f)) mid.sets mid.fields sets fields → Marks n (λ k. nat_eq k head) mid.heads heads → head ≡ claim_head (claim_in nodes f)
+    → AreOver nodes old → AreOver nodes (record { list = list; sets = sets; fields = fields; heads = heads })
+AreOver-pushed nodes old mid f list sets fields heads n head same count more fact marks by_head is over =
+    let M : Slots → Type 0 = λ k. MarksThings n (λ x. claim_mentions x (claim_in nodes f)) k.sets k.fields sets fields × Marks n (λ k. nat_eq k head) k.heads heads in
+    let N : ℕ → Type 0 = λ m. MarksThings m (λ x. claim_mentions x (claim_in nodes f)) old.sets old.fields sets fields × Marks m (λ k. nat_eq k head) old.heads heads in
+    let both = subst N count (subst M same (marks, by_head)) in
+    let R : List Fact → Type 0 = λ fs. AreOver nodes (record { list = fs; sets = sets; fields = fields; heads = heads }) in
+    subst R (sym more) (AreOver-more nodes old f sets fields heads head both.0 both.1 is over fact)

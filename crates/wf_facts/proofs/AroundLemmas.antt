@@ -1,12 +1,15 @@
--- What mentions a field mentions `This`, and what mentions an argument `Args`.
-use Rattle.std.proofs.Common.{◌≡◌, ℕ, Bool, true, false, ◌||◌, refl}
-use Rattle.std.proofs.lemmas.Bool.{lt-ltb}
+-- What mentions an argument mentions `Args`.
+use Rattle.std.proofs.Common.{◌≡◌, ℕ, List, [], ◌∷◌, Bool, true, false, ◌||◌, refl}
+use Rattle.wf_ast.specs.declared.variables.ArgId.{ArgId}
 use Rattle.wf_ast.specs.declared.things.Thing.{Thing}
+use Rattle.wf_ast.specs.declared.typed_nodes.TypedNodes.{TypedNodes}
 use Rattle.wf_ast.specs.declared.things.Thing.TheVariants as things
 use Rattle.wf_ast.specs.TypedTree.{Path, local, field, arg, NumTree, number, read, element, link, convert, length_of, asked, SliceTree, slice, array, cut, EndTree, absent, present, StatusTree, status, held, no_status, CondTree, truth, flag, compare, same_status, junction, negation, closed, has_category}
 use Rattle.wf_ast.specs.Mentions.{path_is, slice_is, is_element, num_mentions, slice_mentions, end_mentions, status_mentions, cond_mentions}
-use Rattle.wf_facts_exprs.specs.Claims.{SideTree, single, sum, Claim, compared, stands, side_mentions, claim_mentions}
-use Rattle.wf_facts.specs.IndexedFacts.{has_set, IsNamedInSets, thing_around}
+use Rattle.wf_facts_exprs.specs.Claims.{claim_in, SideTree, single, sum, Claim, compared, stands, side_mentions, claim_mentions}
+use Rattle.wf_facts_exprs.specs.declared.facts.Fact.{Fact}
+use Rattle.wf_facts_exprs.specs.Sets.{IsAround, IsSetOf, Within}
+use Rattle.wf_facts.specs.IndexedFacts.{mentioning}
 
 either : (a b c d : Bool) → (a ≡ true → c ≡ true) → (b ≡ true → d ≡ true) → (a || b) ≡ true → (c || d) ≡ true
 either true b c d h k e = rw (h refl) refl
@@ -61,19 +64,8 @@ module _ (x y : Thing) (path : (p : Path) → path_is x p ≡ true → path_is y
   claim_around (compared a op b) e = either (side_mentions x a) (side_mentions x b) (side_mentions y a) (side_mentions y b) (side_around a) (side_around b) e
   claim_around (stands c answer) e = cond_around c e
 
-around_mentions : (x : Thing) → has_set x ≡ false → (c : Claim) → claim_mentions x c ≡ true → claim_mentions (thing_around x) c ≡ true
-around_mentions (things.Field n) none c e = claim_around (things.Field n) things.This paths slices (λ h. absurd (cc h)) c e
-  where
-    paths : (p : Path) → path_is (things.Field n) p ≡ true → path_is things.This p ≡ true
-    paths (local k) h = absurd (cc h)
-    paths (field k) h = refl
-    paths (arg k) h = absurd (cc h)
-
-    slices : (p : Path) → slice_is (things.Field n) p ≡ true → slice_is things.This p ≡ true
-    slices (local k) h = absurd (cc h)
-    slices (field k) h = refl
-    slices (arg k) h = absurd (cc h)
-around_mentions (things.Arg n) none c e = claim_around (things.Arg n) things.Args paths slices (λ h. absurd (cc h)) c e
+args_mentioned : (n : ArgId) (c : Claim) → claim_mentions (things.Arg n) c ≡ true → claim_mentions things.Args c ≡ true
+args_mentioned n c e = claim_around (things.Arg n) things.Args paths slices (λ h. absurd (cc h)) c e
   where
     paths : (p : Path) → path_is (things.Arg n) p ≡ true → path_is things.Args p ≡ true
     paths (local k) h = absurd (cc h)
@@ -84,22 +76,11 @@ around_mentions (things.Arg n) none c e = claim_around (things.Arg n) things.Arg
     slices (local k) h = absurd (cc h)
     slices (field k) h = absurd (cc h)
     slices (arg k) h = refl
-around_mentions x none c e = e
 
--- So what doesn't mention the one doesn't mention the other.
-pub none_around : (x : Thing) → has_set x ≡ false → (c : Claim) → claim_mentions (thing_around x) c ≡ false → claim_mentions x c ≡ false
-none_around x none c e = by (claim_mentions x c) refl
-  where
-    by : (b : Bool) → claim_mentions x c ≡ b → b ≡ false
-    by false h = refl
-    by true h = absurd (cc (e, around_mentions x none c h))
+mentioned_within : (nodes : TypedNodes) (n : ArgId) (fs : List Fact) → Within (mentioning nodes (things.Arg n) fs) (mentioning nodes things.Args fs)
+mentioned_within nodes n [] = tt
+mentioned_within nodes n (f ∷ fs) = (args_mentioned n (claim_in nodes f), mentioned_within nodes n fs)
 
--- And it is a thing with a set.
-pub around_has_set : (x : Thing) → has_set x ≡ false → IsNamedInSets x → has_set (thing_around x) ≡ true
-around_has_set (things.Field n) none few = refl
-around_has_set (things.Arg n) none few = refl
-around_has_set (things.Local n) none few = absurd (cc (none, lt-ltb n.0 256 few))
-around_has_set things.This none few = refl
-around_has_set things.Args none few = refl
-around_has_set things.Element none few = refl
-around_has_set things.SliceLocals none few = refl
+-- The set of the facts that mention an argument is one around those that mention this one.
+pub arg_known : (nodes : TypedNodes) (fs : List Fact) (words : List ℕ) (n : ArgId) → IsSetOf words (mentioning nodes things.Args fs) → IsAround words (mentioning nodes (things.Arg n) fs)
+arg_known nodes fs words n set = record { whole = mentioning nodes things.Args fs; is = set; holds = mentioned_within nodes n fs }

@@ -5,15 +5,18 @@ use Rattle.std.proofs.lemmas.Bool.{ne_eqb, eq-eqb}
 use Rattle.std.proofs.lemmas.List.{append-nil, take_more, take_more_set, get_or-drop, drop-drop, drop-set-lt, length-set, length-take-le, length-map, take_all, map-append}
 use Rattle.std.proofs.lemmas.List.Elements.{All-set}
 use Rattle.wf_ast.specs.declared.things.Thing.{Thing}
+use Rattle.wf_ast.specs.declared.things.Thing.TheVariants as things
 use Rattle.wf_ast.specs.declared.typed_nodes.TypedNodes.{TypedNodes}
 use Rattle.wf_facts_exprs.specs.declared.facts.Fact.{Fact}
 use Rattle.wf_facts_exprs.specs.Claims.{Claim, claim_in, claims_in, claim_mentions, is_fact, AreFacts}
-use Rattle.wf_facts.specs.declared.sets.FactSet.{FactSet}
+use Rattle.wf_facts_exprs.specs.declared.sets.FactSet.{FactSet}
 use Rattle.wf_facts.specs.declared.changes.Change.{Change}
-use Rattle.wf_facts.specs.Sets.{member, members, IsSetOf, unmarked}
+use Rattle.wf_facts_exprs.specs.Sets.{member, members, IsAround, IsSetOf, unmarked}
 use Rattle.wf_facts.specs.FactLists.{changed, still_known}
-use Rattle.wf_facts.specs.IndexedFacts.{FactList, IsOver, mentioning, set_of, set_number, words_at}
-use Rattle.wf_facts.proofs.SetLemmas.{length-members, unmarked-push, members_known}
+use Rattle.wf_facts.specs.IndexedFacts.{Slots, AreOver, field_set, mentioning, set_of, set_number}
+use Rattle.wf_facts_exprs.specs.Heads.{claim_head, having_head}
+use Rattle.wf_facts_exprs.specs.NumberedSets.{words_at}
+use Rattle.wf_facts_exprs.proofs.SetLemmas.{length-members, unmarked-push, members_known}
 use Rattle.wf_facts.proofs.DropLemmas.{length-mentioning, item_at}
 
 -- A list whose marked items are taken along.
@@ -64,6 +67,7 @@ pub record Renews (nodes : TypedNodes) (change : Change) (meant dropped : List �
   pub long : length ys ≡ length xs
   pub facts : AreFacts nodes ys
   pub same : (x : Thing) → mentioning nodes x ys ≡ mentioning nodes x xs
+  pub headed : (h : ℕ) → having_head nodes h ys ≡ having_head nodes h xs
 
 members_below : (a b : List ℕ) (n : ℕ) → ((k : ℕ) → k < n → member a k ≡ member b k) → members a n ≡ members b n
 members_below a b zero h = refl
@@ -118,11 +122,12 @@ module _ (nodes : TypedNodes) (change : Change) (meant dropped : List ℕ) (xs y
     long = r.long;
     facts = r.facts;
     same = r.same;
+    headed = r.headed;
   }
 
   pub Renews-kept : member meant i ≡ true → (g : Fact) → Some (claim_in nodes g) ≡ still_known change (claim_in nodes item) → is_fact nodes g ≡ true
-      → ((x : Thing) → claim_mentions x (claim_in nodes g) ≡ claim_mentions x (claim_in nodes item)) → Renews nodes change meant dropped xs (slice_set ys i g) (i + 1)
-  Renews-kept h g known fact same = record {
+      → ((x : Thing) → claim_mentions x (claim_in nodes g) ≡ claim_mentions x (claim_in nodes item)) → claim_head (claim_in nodes g) ≡ claim_head (claim_in nodes item) → Renews nodes change meant dropped xs (slice_set ys i g) (i + 1)
+  Renews-kept h g known fact same head = record {
     claims = left_on dropped false g (slice_set ys i g) refl fresh (take_more_set ys i g within) ∙ ap (λ cs. cs ++ claim_in nodes g ∷ []) r.claims
         ∙ sym (right_on ∙ rw (h, ← known) refl);
     later = λ k a b. r.later k (omega (arith, a)) b;
@@ -130,6 +135,7 @@ module _ (nodes : TypedNodes) (change : Change) (meant dropped : List ℕ) (xs y
     long = length-set ys i g ∙ r.long;
     facts = All-set (λ f. is_fact nodes f ≡ true) ys i g fact r.facts;
     same = λ x. map_set_same (λ f. claim_mentions x (claim_in nodes f)) ys i g d within (same x) ∙ r.same x;
+    headed = λ k. map_set_same (λ f. nat_eq (claim_head (claim_in nodes f)) k) ys i g d within (ap (λ n. nat_eq n k) head) ∙ r.headed k;
   }
 
   pub Renews-lost : member meant i ≡ true → None ≡ still_known change (claim_in nodes item) → (written : List ℕ)
@@ -145,6 +151,7 @@ module _ (nodes : TypedNodes) (change : Change) (meant dropped : List ℕ) (xs y
         long = r.long;
         facts = r.facts;
         same = r.same;
+        headed = r.headed;
       }
 
 pub Renews-unmeant : (nodes : TypedNodes) (change : Change) (meant dropped : List ℕ) (xs ys : List Fact) (i : ℕ) → Renews nodes change meant dropped xs ys i → i < length ys → length xs ≤ 512
@@ -163,10 +170,10 @@ Renews-all nodes change meant dropped xs ys i r a b few x set =
     ∙ ap (λ ms. renewed change ms (claims_in nodes xs)) (members_known meant (mentioning nodes x xs) set (length xs) (length-mentioning nodes x xs) few)
     ∙ renewed-is nodes x change xs
 
--- The sets stay those of a list whose facts mention what they did.
-pub IsOver-same : (nodes : TypedNodes) (old mid : FactList) (list : List Fact) → mid.list ≡ list → mid.sets ≡ old.sets → AreFacts nodes list → ((x : Thing) → mentioning nodes x list ≡ mentioning nodes x old.list)
-    → IsOver nodes old → IsOver nodes mid
-IsOver-same nodes old mid list is sets facts same over =
+-- The sets stay those of a list whose facts mention what they did, and have the heads that they had.
+pub AreOver-same : (nodes : TypedNodes) (old mid : Slots) (list : List Fact) → mid.list ≡ list → mid.sets ≡ old.sets → mid.fields ≡ old.fields → mid.heads ≡ old.heads → AreFacts nodes list
+    → ((x : Thing) → mentioning nodes x list ≡ mentioning nodes x old.list) → ((h : ℕ) → having_head nodes h list ≡ having_head nodes h old.list) → AreOver nodes old → AreOver nodes mid
+AreOver-same nodes old mid list is sets fields heads facts same headed over =
     let P : List Fact → Type 0 = AreFacts nodes in
     record {
       facts = subst P (sym is) facts;
@@ -174,4 +181,12 @@ IsOver-same nodes old mid list is sets facts same over =
           let Q : List Bool → Type 0 = λ bs. IsSetOf (set_of mid x) bs in
           let R : List FactSet → Type 0 = λ ss. IsSetOf (words_at ss (set_number x)) (mentioning nodes x old.list) in
           subst Q (sym (ap (mentioning nodes x) is ∙ same x)) (subst R (sym sets) (over.sets x h));
+      fields = λ x.
+          let Q : List Bool → Type 0 = λ bs. IsAround (words_at mid.fields (field_set x)) bs in
+          let R : List FactSet → Type 0 = λ ss. IsAround (words_at ss (field_set x)) (mentioning nodes (things.Field x) old.list) in
+          subst Q (sym (ap (mentioning nodes (things.Field x)) is ∙ same (things.Field x))) (subst R (sym fields) (over.fields x));
+      heads = λ h low.
+          let Q : List Bool → Type 0 = λ bs. IsSetOf (words_at mid.heads h) bs in
+          let R : List FactSet → Type 0 = λ ss. IsSetOf (words_at ss h) (having_head nodes h old.list) in
+          subst Q (sym (ap (having_head nodes h) is ∙ headed h)) (subst R (sym heads) (over.heads h low));
     }

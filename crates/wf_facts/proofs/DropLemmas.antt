@@ -1,20 +1,24 @@
 -- Facts leave the list, and all sets move with it.
 use Rattle.std.proofs.Common.{◌≡◌, ℕ, zero, suc, ◌+◌, ◌<◌, ◌≤◌, Bool, true, false, ◌&&◌, ◌||◌, ◌⊎◌, inl, inr, List, [], ◌∷◌, ◌++◌, length, get_or, take, drop, map, refl, sym, ap, ◌∙◌, subst, arith, add-one}
 use Rattle.std.specs.Prelude.{slice_set, nat_eq, replicate}
-use Rattle.std.proofs.lemmas.Bool.{cases_eq, cases_lt}
+use Rattle.std.proofs.lemmas.Bool.{cases_eq, cases_lt, eq-eqb, ne_eqb}
 use Rattle.std.proofs.lemmas.Bool.Decides.{nat_tests}
-use Rattle.std.proofs.lemmas.List.{append-nil, take_more, take_more_set, get_or-drop, drop-drop, drop-set-lt, length-set, length-take-le, get_or_default, map-append}
+use Rattle.std.proofs.lemmas.List.{append-nil, take_more, take_more_set, get_or-drop, drop-drop, drop-set-lt, length-set, length-map, length-take-le, get_or_default}
 use Rattle.std.proofs.lemmas.List.Elements.{All-nil, All-cons, All-head, All-tail}
+use Rattle.wf_ast.specs.declared.variables.FieldId.{FieldId}
 use Rattle.wf_ast.specs.declared.things.Thing.{Thing}
 use Rattle.wf_ast.specs.declared.things.Thing.TheVariants as things
 use Rattle.wf_ast.specs.declared.typed_nodes.TypedNodes.{TypedNodes}
 use Rattle.wf_facts_exprs.specs.declared.facts.Fact.{Fact}
 use Rattle.wf_facts_exprs.specs.Claims.{claim_in, claims_in, claim_mentions, is_fact, AreFacts}
-use Rattle.wf_facts.specs.declared.sets.FactSet.{FactSet}
-use Rattle.wf_facts.specs.Sets.{member, members, marked, IsSetOf, unmarked}
+use Rattle.wf_facts_exprs.specs.declared.sets.FactSet.{FactSet}
+use Rattle.wf_facts_exprs.specs.Sets.{member, members, marked, IsAround, IsSetOf, Within, unmarked}
+use Rattle.wf_facts_exprs.specs.NumberedSets.{words_at}
+use Rattle.wf_facts_exprs.proofs.NumberedLemmas.{Leaves}
 use Rattle.wf_facts.specs.FactLists.{without}
-use Rattle.wf_facts.specs.IndexedFacts.{FactList, IsOver, has_set, set_number, set_of, mentioning, words_at}
-use Rattle.wf_facts.proofs.SetLemmas.{length-members, unmarked-push, unmarked_none, unmarked_one, members_known, IsSetOf-put, all_stay, stays_before, empty_set, none_in_zeros}
+use Rattle.wf_facts.specs.IndexedFacts.{Slots, AreOver, field_set, has_set, set_number, set_of, mentioning}
+use Rattle.wf_facts_exprs.specs.Heads.{claim_head, having_head}
+use Rattle.wf_facts_exprs.proofs.SetLemmas.{length-members, unmarked-push, unmarked_none, unmarked_one, members_known, all_stay, empty_set, marked_past, none_in_zeros}
 
 -- What stays of the first `i` stands at the front, and the rest is as it was.
 pub record Closes {X : Type 0} (dropped : List ℕ) (xs ys : List X) (stay i : ℕ) : Type 0 where
@@ -73,87 +77,8 @@ module _ {X : Type 0} (dropped : List ℕ) (xs ys : List X) (stay i : ℕ) (c : 
 pub Closes-first : {X : Type 0} (dropped : List ℕ) (xs : List X) (first : ℕ) → ((k : ℕ) → k < first → member dropped k ≡ false) → Closes dropped xs xs first first
 Closes-first dropped xs first before = record { front = sym (all_stay dropped first (take first xs) before); rest = refl; behind = omega arith; long = refl }
 
--- Sets by place.
-pub words_read : (sets : List FactSet) (k : ℕ) (s : FactSet) → k < length sets → s ≡ get_or sets k s → words_at sets k ≡ s.words
-words_read [] k s h is = absurd (omega (arith, h))
-words_read (r ∷ sets) zero s h is = ap (λ q. q.words) (sym is)
-words_read (r ∷ sets) (suc k) s h is = words_read sets k s (omega (arith, h)) is
-
-pub words_got : (sets : List FactSet) (k : ℕ) (d : FactSet) → k < length sets → words_at sets k ≡ (get_or sets k d).words
-words_got [] k d h = absurd (omega (arith, h))
-words_got (r ∷ sets) zero d h = refl
-words_got (r ∷ sets) (suc k) d h = words_got sets k d (omega (arith, h))
-
-pub words_set : (sets : List FactSet) (k : ℕ) (s : FactSet) → k < length sets → words_at (slice_set sets k s) k ≡ s.words
-words_set [] k s h = absurd (omega (arith, h))
-words_set (r ∷ sets) zero s h = refl
-words_set (r ∷ sets) (suc k) s h = words_set sets k s (omega (arith, h))
-
-pub words_set_other : (sets : List FactSet) (k j : ℕ) (s : FactSet) → (j ≡ k → ⊥) → words_at (slice_set sets k s) j ≡ words_at sets j
-words_set_other [] k j s h = refl
-words_set_other (r ∷ sets) zero zero s h = absurd (h refl)
-words_set_other (r ∷ sets) zero (suc j) s h = refl
-words_set_other (r ∷ sets) (suc k) zero s h = refl
-words_set_other (r ∷ sets) (suc k) (suc j) s h = words_set_other sets k j s (λ e. h (ap suc e))
-
--- A set of marks has become that of those that are left.
-abbrev pub Leaves : (dropped : List ℕ) (n : ℕ) (before after : List ℕ) → Type 0
-Leaves dropped n before after = (marks : List Bool) → length marks ≡ n → IsSetOf before marks → IsSetOf after (unmarked (members dropped n) marks)
-
-pub Leaves-moved : (dropped : List ℕ) (n : ℕ) (before after : List ℕ) → n ≤ 512 → IsSetOf after (unmarked (members dropped n) (members before n)) → Leaves dropped n before after
-Leaves-moved dropped n before after few set marks count is =
-    let P : List Bool → Type 0 = λ ms. IsSetOf after (unmarked (members dropped n) ms) in
-    subst P (members_known before marks is n (sym count) few) set
-
-pub Leaves-same : (dropped : List ℕ) (n first : ℕ) (own : List ℕ) → first ≤ n → n ≤ 512 → ((k : ℕ) → k < first → member dropped k ≡ false)
-    → ((k : ℕ) → first ≤ k → k < n → member own k ≡ false) → Leaves dropped n own own
-Leaves-same dropped n first own h few before none marks count is = stays_before dropped own marks first n count h few before none is
-
--- The sets up to `i` have moved, and the others stand as they were.
-pub record MovesSets (dropped : List ℕ) (n : ℕ) (xs ys : List FactSet) (i : ℕ) : Type 0 where
-  pub done : (k : ℕ) → k < i → Leaves dropped n (words_at xs k) (words_at ys k)
-  pub rest : (k : ℕ) → i ≤ k → words_at ys k ≡ words_at xs k
-  pub long : length ys ≡ length xs
-
-pub MovesSets-more : (dropped : List ℕ) (n : ℕ) (xs ys : List FactSet) (i : ℕ) → MovesSets dropped n xs ys i → i < length ys → (old : List ℕ) (moved : FactSet) → words_at ys i ≡ old
-    → Leaves dropped n old moved.words → MovesSets dropped n xs (slice_set ys i moved) (i + 1)
-MovesSets-more dropped n xs ys i m within old moved is set = record {
-  done = λ k h. by k h (cases_eq k i);
-  rest = λ k h. words_set_other ys i k moved (λ e. absurd (omega (arith, e, h))) ∙ m.rest k (omega (arith, h));
-  long = length-set ys i moved ∙ m.long;
-}
-  where
-    own : old ≡ words_at xs i
-    own = sym is ∙ m.rest i (omega arith)
-
-    by : (k : ℕ) → k < i + 1 → (k ≡ i) ⊎ (k ≡ i → ⊥) → Leaves dropped n (words_at xs k) (words_at (slice_set ys i moved) k)
-    by k h (inl e) =
-        let P : List ℕ → Type 0 = Leaves dropped n (words_at xs i) in
-        let Q : List ℕ → Type 0 = λ ws. Leaves dropped n ws moved.words in
-        let R : ℕ → Type 0 = λ j. Leaves dropped n (words_at xs j) (words_at (slice_set ys i moved) j) in
-        subst R (sym e) (subst P (sym (words_set ys i moved within)) (subst Q own set))
-    by k h (inr e) =
-        let P : List ℕ → Type 0 = Leaves dropped n (words_at xs k) in
-        subst P (sym (words_set_other ys i k moved e)) (m.done k (omega (arith, h, e)))
-
-pub MovesSets-same : (dropped : List ℕ) (n : ℕ) (xs ys : List FactSet) (i : ℕ) → MovesSets dropped n xs ys i → (old : List ℕ) → words_at ys i ≡ old → Leaves dropped n old old
-    → MovesSets dropped n xs ys (i + 1)
-MovesSets-same dropped n xs ys i m old is set = record {
-  done = λ k h. by k h (cases_eq k i);
-  rest = λ k h. m.rest k (omega (arith, h));
-  long = m.long;
-}
-  where
-    by : (k : ℕ) → k < i + 1 → (k ≡ i) ⊎ (k ≡ i → ⊥) → Leaves dropped n (words_at xs k) (words_at ys k)
-    by k h (inl e) =
-        let P : List ℕ → Type 0 = λ ws. Leaves dropped n ws (words_at ys i) in
-        let Q : List ℕ → Type 0 = λ ws. Leaves dropped n ws ws in
-        let R : ℕ → Type 0 = λ j. Leaves dropped n (words_at xs j) (words_at ys j) in
-        subst R (sym e) (subst P (m.rest i (omega arith)) (subst Q (sym is) set))
-    by k h (inr e) = m.done k (omega (arith, h, e))
-
 -- What stays has the marks that stay.
-map-unmarked : {X Y : Type 0} (f : X → Y) (ms : List Bool) (xs : List X) → map f (unmarked ms xs) ≡ unmarked ms (map f xs)
+pub map-unmarked : {X Y : Type 0} (f : X → Y) (ms : List Bool) (xs : List X) → map f (unmarked ms xs) ≡ unmarked ms (map f xs)
 map-unmarked f [] xs = refl
 map-unmarked f (m ∷ ms) [] = refl
 map-unmarked f (true ∷ ms) (x ∷ xs) = map-unmarked f ms xs
@@ -179,69 +104,82 @@ number_below things.SliceLocals h = omega arith
 number_below (things.Field x) h = absurd (cc (h))
 number_below (things.Arg x) h = absurd (cc (h))
 
--- A set that isn't in use stays empty.
-words_past : (sets : List FactSet) (k : ℕ) → length sets ≤ k → words_at sets k ≡ replicate 8 0
-words_past [] k h = refl
-words_past (s ∷ sets) zero h = absurd (omega (arith, h))
-words_past (s ∷ sets) (suc k) h = words_past sets k (omega (arith, h))
+-- What is marked among others stays so.
+pub length-within : (ms ws : List Bool) → Within ms ws → length ws ≡ length ms
+length-within [] [] h = refl
+length-within (m ∷ ms) (w ∷ ws) h = ap suc (length-within ms ws h.1)
+length-within [] (w ∷ ws) h = absurd h
+length-within (m ∷ ms) [] h = absurd h
 
-Leaves-empty : (dropped : List ℕ) (n : ℕ) → n ≤ 512 → Leaves dropped n (replicate 8 0) (replicate 8 0)
-Leaves-empty dropped n few = Leaves-same dropped n 0 (replicate 8 0) (omega arith) few (λ k h. absurd (omega (arith, h))) (λ k a b. none_in_zeros k)
+within-unmarked : (gone ms ws : List Bool) → Within ms ws → Within (unmarked gone ms) (unmarked gone ws)
+within-unmarked [] ms ws h = h
+within-unmarked (g ∷ gone) [] [] h = h
+within-unmarked (true ∷ gone) (m ∷ ms) (w ∷ ws) h = within-unmarked gone ms ws h.1
+within-unmarked (false ∷ gone) (m ∷ ms) (w ∷ ws) h = (h.0, within-unmarked gone ms ws h.1)
+within-unmarked (g ∷ gone) [] (w ∷ ws) h = absurd h
+within-unmarked (g ∷ gone) (m ∷ ms) [] h = absurd h
 
-pub Leaves-each : (dropped : List ℕ) (n : ℕ) (xs ys : List FactSet) → n ≤ 512 → length ys ≡ length xs → ((k : ℕ) → k < length xs → Leaves dropped n (words_at xs k) (words_at ys k))
-    → (k : ℕ) → Leaves dropped n (words_at xs k) (words_at ys k)
-Leaves-each dropped n xs ys few long moved k = by (cases_lt k (length xs))
-  where
-    by : (k < length xs) ⊎ (length xs ≤ k) → Leaves dropped n (words_at xs k) (words_at ys k)
-    by (inl h) = moved k h
-    by (inr h) =
-        let P : List ℕ → Type 0 = λ ws. Leaves dropped n ws (words_at ys k) in
-        let Q : List ℕ → Type 0 = λ ws. Leaves dropped n (replicate 8 0) ws in
-        subst P (sym (words_past xs k h)) (subst Q (sym (words_past ys k (omega (arith, h, long)))) (Leaves-empty dropped n few))
+abbrev pub AllLeave : (dropped : List ℕ) (n : ℕ) (before after : List FactSet) → Type 0
+AllLeave dropped n before after = (k : ℕ) → Leaves dropped n (words_at before k) (words_at after k)
 
-pub words_pushed : (sets : List FactSet) (s : FactSet) → s.words ≡ replicate 8 0 → (k : ℕ) → words_at (sets ++ s ∷ []) k ≡ words_at sets k
-words_pushed [] s empty zero = empty
-words_pushed [] s empty (suc k) = refl
-words_pushed (r ∷ sets) s empty zero = refl
-words_pushed (r ∷ sets) s empty (suc k) = words_pushed sets s empty k
+module _ (nodes : TypedNodes) (old : Slots) (dropped : List ℕ) (sets fields heads : List FactSet)
+    (sets_moved : AllLeave dropped (length old.list) old.sets sets) (fields_moved : AllLeave dropped (length old.list) old.fields fields) (heads_moved : AllLeave dropped (length old.list) old.heads heads) (over : AreOver nodes old) where
+  abbrev gone : List Bool
+  gone = members dropped (length old.list)
 
-pub words_beyond : (sets : List FactSet) (k : ℕ) (empty : List ℕ) → empty ≡ replicate 8 0 → length sets ≤ k → empty ≡ words_at sets k
-words_beyond sets k empty is h = is ∙ sym (words_past sets k h)
-
-pub IsOver-dropped : (nodes : TypedNodes) (old : FactList) (dropped : List ℕ) (sets : List FactSet)
-    → ((k : ℕ) → Leaves dropped (length old.list) (words_at old.sets k) (words_at sets k))
-    → IsOver nodes old → IsOver nodes (record { list = unmarked (members dropped (length old.list)) old.list; sets = sets })
-IsOver-dropped nodes old dropped sets moved over = record {
-  facts = facts-unmarked nodes (members dropped (length old.list)) old.list over.facts;
-  sets = λ x h.
+  left_sets : (x : Thing) → has_set x ≡ true → IsSetOf (words_at sets (set_number x)) (mentioning nodes x (unmarked gone old.list))
+  left_sets x h =
       let P : List Bool → Type 0 = IsSetOf (words_at sets (set_number x)) in
-      subst P (sym (map-unmarked (λ f. claim_mentions x (claim_in nodes f)) (members dropped (length old.list)) old.list))
-      (moved (set_number x) (mentioning nodes x old.list) (sym (length-mentioning nodes x old.list)) (over.sets x h));
-}
+      subst P (sym (map-unmarked (λ f. claim_mentions x (claim_in nodes f)) gone old.list)) (sets_moved (set_number x) (mentioning nodes x old.list) (sym (length-mentioning nodes x old.list)) (over.sets x h))
+
+  left_fields : (x : FieldId) → IsAround (words_at fields (field_set x)) (mentioning nodes (things.Field x) (unmarked gone old.list))
+  left_fields x =
+      let around = over.fields x in
+      let long : length around.whole ≡ length old.list = length-within _ around.whole around.holds ∙ sym (length-mentioning nodes (things.Field x) old.list) in
+      let P : List Bool → Type 0 = λ ms. Within ms (unmarked gone around.whole) in
+      record {
+        whole = unmarked gone around.whole;
+        is = fields_moved (field_set x) around.whole long around.is;
+        holds = subst P (sym (map-unmarked (λ f. claim_mentions (things.Field x) (claim_in nodes f)) gone old.list)) (within-unmarked gone (mentioning nodes (things.Field x) old.list) around.whole around.holds);
+      }
+
+  left_heads : (h : ℕ) → h < 256 → IsSetOf (words_at heads h) (having_head nodes h (unmarked gone old.list))
+  left_heads h low =
+      let P : List Bool → Type 0 = IsSetOf (words_at heads h) in
+      subst P (sym (map-unmarked (λ f. nat_eq (claim_head (claim_in nodes f)) h) gone old.list)) (heads_moved h (having_head nodes h old.list) (length-map old.list _) (over.heads h low))
+
+  AreOver-dropped : AreOver nodes (record { list = unmarked gone old.list; sets = sets; fields = fields; heads = heads })
+  AreOver-dropped = record { facts = facts-unmarked nodes gone old.list over.facts; sets = left_sets; fields = left_fields; heads = left_heads }
 
 -- The same with what stood before named anew.
-pub IsOver-left : (nodes : TypedNodes) (old : FactList) (dropped : List ℕ) (list : List Fact) (before sets : List FactSet) (n : ℕ) → n ≡ length old.list → before ≡ old.sets
-    → list ≡ unmarked (members dropped (length old.list)) old.list
-    → ((k : ℕ) → Leaves dropped n (words_at before k) (words_at sets k))
-    → IsOver nodes old → IsOver nodes (record { list = list; sets = sets })
-IsOver-left nodes old dropped list before sets n count same left moved over =
-    let P : List FactSet → Type 0 = λ bs. (k : ℕ) → Leaves dropped n (words_at bs k) (words_at sets k) in
-    let Q : ℕ → Type 0 = λ m. (k : ℕ) → Leaves dropped m (words_at old.sets k) (words_at sets k) in
-    let R : List Fact → Type 0 = λ fs. IsOver nodes (record { list = fs; sets = sets }) in
-    subst R (sym left) (IsOver-dropped nodes old dropped sets (subst Q count (subst P same moved)) over)
+pub AreOver-left : (nodes : TypedNodes) (old mid : Slots) (dropped : List ℕ) (list : List Fact) (sets fields heads : List FactSet) (n : ℕ) → mid ≡ old → n ≡ length old.list → list ≡ unmarked (members dropped (length old.list)) old.list
+    → AllLeave dropped n mid.sets sets → AllLeave dropped n mid.fields fields → AllLeave dropped n mid.heads heads
+    → AreOver nodes old → AreOver nodes (record { list = list; sets = sets; fields = fields; heads = heads })
+AreOver-left nodes old mid dropped list sets fields heads n same count left a b c over =
+    let N : ℕ → Type 0 = λ m. AllLeave dropped m old.sets sets × AllLeave dropped m old.fields fields × AllLeave dropped m old.heads heads in
+    let M : Slots → Type 0 = λ f. AllLeave dropped n f.sets sets × AllLeave dropped n f.fields fields × AllLeave dropped n f.heads heads in
+    let moved = subst N count (subst M same (a, b, c)) in
+    let R : List Fact → Type 0 = λ fs. AreOver nodes (record { list = fs; sets = sets; fields = fields; heads = heads }) in
+    subst R (sym left) (AreOver-dropped nodes old dropped sets fields heads moved.0 moved.1 moved.2 over)
 
 -- The set that stands for a thing.
-pub set_found : (known : FactList) (list : List Fact) (sets : List FactSet) → record { list = list; sets = sets } ≡ known → (x : Thing)
-    → (k : ℕ) → k ≡ set_number x → (words : List ℕ) → words ≡ words_at sets k → words ≡ set_of known x
-set_found known list sets seen x k is words read = read ∙ ap (words_at sets) is ∙ ap (λ f. words_at f.sets (set_number x)) seen
+pub set_found : (known mid : Slots) → mid ≡ known → (x : Thing) → (k : ℕ) → k ≡ set_number x → (words : List ℕ) → words ≡ words_at mid.sets k → words ≡ set_of known x
+set_found known mid same x k is words read = read ∙ ap (words_at mid.sets) is ∙ ap (λ f. words_at f.sets (set_number x)) same
 
-pub set_known : (nodes : TypedNodes) (known : FactList) (list : List Fact) (sets : List FactSet) → record { list = list; sets = sets } ≡ known → (x : Thing) → has_set x ≡ true
-    → IsOver nodes known → (k : ℕ) → k ≡ set_number x → (words : List ℕ) → words ≡ words_at sets k → IsSetOf words (mentioning nodes x known.list)
-set_known nodes known list sets seen x h over k is words read =
+pub set_known : (nodes : TypedNodes) (known mid : Slots) → mid ≡ known → (x : Thing) → has_set x ≡ true
+    → AreOver nodes known → (k : ℕ) → k ≡ set_number x → (words : List ℕ) → words ≡ words_at mid.sets k → IsSetOf words (mentioning nodes x known.list)
+set_known nodes known mid same x h over k is words read =
     let P : List ℕ → Type 0 = λ ws. IsSetOf ws (mentioning nodes x known.list) in
-    subst P (sym (set_found known list sets seen x k is words read)) (over.sets x h)
+    subst P (sym (set_found known mid same x k is words read)) (over.sets x h)
 
-claims-unmarked : (nodes : TypedNodes) (x : Thing) (fs : List Fact) → claims_in nodes (unmarked (mentioning nodes x fs) fs) ≡ without x (claims_in nodes fs)
+-- The set around a field.
+pub field_known : (nodes : TypedNodes) (known mid : Slots) → mid ≡ known → (x : FieldId) → AreOver nodes known → (k : ℕ) → k ≡ field_set x → (words : List ℕ) → words ≡ words_at mid.fields k
+    → IsAround words (mentioning nodes (things.Field x) known.list)
+field_known nodes known mid same x over k is words read =
+    let P : List ℕ → Type 0 = λ ws. IsAround ws (mentioning nodes (things.Field x) known.list) in
+    subst P (sym (read ∙ ap (words_at mid.fields) is ∙ ap (λ f. words_at f.fields (field_set x)) same)) (over.fields x)
+
+pub claims-unmarked : (nodes : TypedNodes) (x : Thing) (fs : List Fact) → claims_in nodes (unmarked (mentioning nodes x fs) fs) ≡ without x (claims_in nodes fs)
 claims-unmarked nodes x [] = refl
 claims-unmarked nodes x (f ∷ fs) = by (claim_mentions x (claim_in nodes f)) refl (claims-unmarked nodes x fs)
   where
@@ -258,35 +196,83 @@ claims-dropped nodes x words fs few set =
     ap (λ ms. claims_in nodes (unmarked ms fs)) known ∙ claims-unmarked nodes x fs
 
 -- The empty list.
-IsOver-empty : (nodes : TypedNodes) → IsOver nodes (record { list = []; sets = [] })
-IsOver-empty nodes = record {
+AreOver-empty : (nodes : TypedNodes) → AreOver nodes (record { list = []; sets = []; fields = []; heads = [] })
+AreOver-empty nodes = record {
   facts = All-nil (λ f. is_fact nodes f ≡ true);
   sets = λ x h. empty_set;
+  fields = λ x. record { whole = []; is = empty_set; holds = tt };
+  heads = λ h low. empty_set;
 }
 
-pub IsOver-new : (nodes : TypedNodes) (list : List Fact) (sets : List FactSet) → list ≡ [] → sets ≡ [] → IsOver nodes (record { list = list; sets = sets })
-IsOver-new nodes list sets none unused =
-    let P : List Fact → Type 0 = λ fs. IsOver nodes (record { list = fs; sets = sets }) in
-    let Q : List FactSet → Type 0 = λ ss. IsOver nodes (record { list = []; sets = ss }) in
-    subst P (sym none) (subst Q (sym unused) (IsOver-empty nodes))
+pub AreOver-new : (nodes : TypedNodes) (list : List Fact) (sets fields heads : List FactSet) → list ≡ [] → sets ≡ [] → fields ≡ [] → heads ≡ [] → AreOver nodes (record { list = list; sets = sets; fields = fields; heads = heads })
+AreOver-new nodes list sets fields heads none a b c =
+    let P : List Fact → Type 0 = λ fs. AreOver nodes (record { list = fs; sets = sets; fields = fields; heads = heads }) in
+    let Q : List FactSet → Type 0 = λ ss. AreOver nodes (record { list = []; sets = ss; fields = fields; heads = heads }) in
+    let R : List FactSet → Type 0 = λ ss. AreOver nodes (record { list = []; sets = []; fields = ss; heads = heads }) in
+    let S : List FactSet → Type 0 = λ ss. AreOver nodes (record { list = []; sets = []; fields = []; heads = ss }) in
+    subst P (sym none) (subst Q (sym a) (subst R (sym b) (subst S (sym c) (AreOver-empty nodes))))
 
--- One more fact of a list is looked at.
-pub mentioning-more : (nodes : TypedNodes) (x : Thing) (fs : List Fact) (i : ℕ) (d : Fact) → i < length fs
-    → mentioning nodes x (take (i + 1) fs) ≡ mentioning nodes x (take i fs) ++ claim_mentions x (claim_in nodes (get_or fs i d)) ∷ []
-mentioning-more nodes x fs i d h =
-    ap (mentioning nodes x) (take_more fs i d h) ∙ map-append (λ f. claim_mentions x (claim_in nodes f)) (take i fs) (get_or fs i d ∷ [])
-
+-- The facts that mention a thing are gathered from a set around them.
 pub marked-mentioning : (nodes : TypedNodes) (x : Thing) (fs : List Fact) (i : ℕ) (d : Fact) → i < length fs → marked (mentioning nodes x fs) i ≡ claim_mentions x (claim_in nodes (get_or fs i d))
 marked-mentioning nodes x [] i d h = absurd (omega (arith, h))
 marked-mentioning nodes x (f ∷ fs) zero d h = refl
 marked-mentioning nodes x (f ∷ fs) (suc i) d h = marked-mentioning nodes x fs i d (omega (arith, h))
 
-pub meant-more : (nodes : TypedNodes) (x : Thing) (fs : List Fact) (i : ℕ) (d : Fact) → i < length fs → (words written : List ℕ) → IsSetOf words (mentioning nodes x (take i fs))
-    → (b : Bool) → b ≡ claim_mentions x (claim_in nodes (get_or fs i d)) → ((k : ℕ) → k < 512 → member written k ≡ ((nat_eq k i && b) || member words k))
-    → IsSetOf written (mentioning nodes x (take (i + 1) fs))
-meant-more nodes x fs i d h words written set b is put =
-    let e : length (mentioning nodes x (take i fs)) ≡ i = sym (length-mentioning nodes x (take i fs)) ∙ length-take-le i fs (omega (arith, h)) in
-    let Q : ℕ → Type 0 = λ n. (k : ℕ) → k < 512 → member written k ≡ ((nat_eq k n && b) || member words k) in
-    let P : List Bool → Type 0 = IsSetOf written in
-    subst P (ap (λ c. mentioning nodes x (take i fs) ++ c ∷ []) is ∙ sym (mentioning-more nodes x fs i d h))
-    (IsSetOf-put words written (mentioning nodes x (take i fs)) b set (subst Q (sym e) put))
+-- The set has the marked places before i, and none from there on.
+pub record Gathers (marks : List Bool) (words : List ℕ) (i : ℕ) : Type 0 where
+  pub before : (k : ℕ) → k < i → k < 512 → member words k ≡ marked marks k
+  pub later : (k : ℕ) → i ≤ k → k < 512 → member words k ≡ false
+
+within-marked : (ms ws : List Bool) (k : ℕ) → Within ms ws → marked ws k ≡ false → marked ms k ≡ false
+within-marked [] ws k h out = refl
+within-marked (m ∷ ms) [] k h out = absurd h
+within-marked (true ∷ ms) (w ∷ ws) zero h out = absurd (cc (h.0 refl, out))
+within-marked (false ∷ ms) (w ∷ ws) zero h out = refl
+within-marked (m ∷ ms) (w ∷ ws) (suc k) h out = within-marked ms ws k h.1 out
+
+-- What isn't in the set around isn't marked.
+pub Gathers-on : (marks : List Bool) (around words : List ℕ) (i j : ℕ) → i ≤ j → IsAround around marks → ((k : ℕ) → i ≤ k → k < j → member around k ≡ false) → Gathers marks words i → Gathers marks words j
+Gathers-on marks around words i j ordered is none g = record {
+  before = λ k low few. by k low few (cases_lt k i);
+  later = λ k low few. later k low few (cases_lt k i);
+}
+  where
+    out : (k : ℕ) → i ≤ k → k < j → k < 512 → marked marks k ≡ false
+    out k a b few = within-marked marks is.whole k is.holds (sym (is.is.at k few) ∙ none k a b)
+
+    by : (k : ℕ) → k < j → k < 512 → (k < i) ⊎ (i ≤ k) → member words k ≡ marked marks k
+    by k low few (inl h) = g.before k h few
+    by k low few (inr h) = g.later k h few ∙ sym (out k h low few)
+
+    later : (k : ℕ) → j ≤ k → k < 512 → (k < i) ⊎ (i ≤ k) → member words k ≡ false
+    later k low few (inl h) = absurd (omega (arith, h, low, ordered))
+    later k low few (inr h) = g.later k h few
+
+pub Gathers-put : (marks : List Bool) (words written : List ℕ) (i : ℕ) (b : Bool) → Gathers marks words i → i < 512 → b ≡ marked marks i → ((k : ℕ) → k < 512 → member written k ≡ ((nat_eq k i && b) || member words k)) → Gathers marks written (i + 1)
+Gathers-put marks words written i b g low is put = record {
+  before = λ k h few. put k few ∙ by k h few (cases_eq k i);
+  later = λ k h few. put k few ∙ ap (λ e. (e && b) || member words k) (ne_eqb k i (λ e. absurd (omega (arith, h, e)))) ∙ g.later k (omega (arith, h)) few;
+}
+  where
+    alone : (c : Bool) → ((true && c) || false) ≡ c
+    alone true = refl
+    alone false = refl
+
+    by : (k : ℕ) → k < i + 1 → k < 512 → (k ≡ i) ⊎ (k ≡ i → ⊥) → ((nat_eq k i && b) || member words k) ≡ marked marks k
+    by k h few (inl e) =
+        ap (λ c. (c && b) || member words k) (eq-eqb k i e) ∙ ap (λ m. (true && b) || m) (g.later k (omega (arith, e)) few) ∙ alone b ∙ is ∙ ap (marked marks) (sym e)
+    by k h few (inr n) = ap (λ c. (c && b) || member words k) (ne_eqb k i n) ∙ g.before k (omega (arith, h, n)) few
+
+pub Gathers-first : (marks : List Bool) → Gathers marks (replicate 8 0) 0
+Gathers-first marks = record { before = λ k h few. absurd (omega (arith, h)); later = λ k h few. none_in_zeros k }
+
+pub Gathers-all : (marks : List Bool) (words : List ℕ) (i : ℕ) → length marks ≤ i → Gathers marks words i → IsSetOf words marks
+Gathers-all marks words i long g = record { at = λ k low. by k low (cases_lt k i) }
+  where
+    by : (k : ℕ) → k < 512 → (k < i) ⊎ (i ≤ k) → member words k ≡ marked marks k
+    by k low (inl h) = g.before k h low
+    by k low (inr h) = g.later k h low ∙ sym (marked_past marks k (omega (arith, long, h)))
+
+-- Whether a fact mentions a thing.
+abbrev pub mentions_in : TypedNodes → Thing → Fact → Bool
+mentions_in nodes x f = claim_mentions x (claim_in nodes f)

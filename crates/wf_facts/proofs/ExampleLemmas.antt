@@ -13,7 +13,7 @@ use Rattle.wf_facts_exprs.specs.declared.facts.Fact.{Fact}
 use Rattle.wf_facts_exprs.specs.Claims.{claim_in, claims_in, claim_mentions}
 use Rattle.wf_facts.specs.Examples.{digit_facts}
 use Rattle.wf_facts.specs.IndexedFacts.{mentioning}
-use Rattle.wf_facts.specs.Sets.{member, marked, IsSetOf}
+use Rattle.wf_facts_exprs.specs.Sets.{member, marked, IsSetOf}
 
 -- Words of 64 bits with the same bits are the same.
 same-word : (m n : ℕ) → m < 2 ^ 64 → n < 2 ^ 64 → ((b : ℕ) → b < 64 → bit_at m b ≡ bit_at n b) → m ≡ n

@@ -7,6 +7,6 @@ pub mod DropLemmas
 pub mod ExampleLemmas
 pub mod FormLemmas
 pub mod LawLemmas
+pub mod LeftLemmas
 pub mod MarkLemmas
 pub mod MentioningLemmas
-pub mod SetLemmas

@@ -1,11 +1,15 @@
 -- A fact comes into the sets of what it mentions.
-use Rattle.std.proofs.Common.{◌≡◌, ℕ, zero, suc, ◌+◌, ◌<◌, ◌≤◌, Bool, true, false, ◌&&◌, ◌||◌, ◌⊎◌, inl, inr, List, [], ◌∷◌, length, take, drop, Some, None, refl, sym, ap, ◌∙◌, subst, arith}
-use Rattle.std.specs.Prelude.{slice_get, slice_set, nat_eq}
-use Rattle.std.proofs.lemmas.Bool.{cases_eq}
+use Rattle.std.proofs.Common.{◌≡◌, ℕ, zero, suc, ◌+◌, ◌%◌, ◌<◌, ◌≤◌, Bool, true, false, ◌&&◌, ◌||◌, List, [], ◌∷◌, length, take, drop, Some, None, refl, sym, ap, ◌∙◌, arith}
+use Rattle.std.specs.Prelude.{slice_get, nat_eq}
+use Rattle.std.proofs.lemmas.Bool.{eq-eqb}
 use Rattle.std.proofs.lemmas.Bool.Decides.{nat_tests}
 use Rattle.wf_ast.specs.declared.numbers.ExprId.{ExprId}
+use Rattle.wf_ast.specs.declared.variables.FieldId.{FieldId}
 use Rattle.wf_ast.specs.declared.things.Thing.{Thing}
+use Rattle.wf_ast.specs.declared.things.Thing.TheVariants as things
+use Rattle.wf_ast.specs.declared.types.Ty.{Ty}
 use Rattle.wf_ast.specs.declared.typed_code.Expr.{Expr}
+use Rattle.wf_ast.specs.declared.typed_code.Expr.TheVariants as exprs
 use Rattle.wf_ast.specs.declared.typed_nodes.TypedNodes.{TypedNodes}
 use Rattle.wf_ast.specs.TypedTree.{ValueTree}
 use Rattle.wf_ast.specs.TypedTrees.{tree_of, type_of_node, constant_of_node}
@@ -14,17 +18,23 @@ use Rattle.wf_ast.specs.Mentions.{mentions}
 use Rattle.wf_ast.specs.SameNodes.{head_mentions, any_mentions}
 use Rattle.wf_ast.proofs.SameLaws.{Lent}
 use Rattle.wf_ast.proofs.MentionLaws.{head_seen, part_seen, part_unseen, nothing_seen}
-use Rattle.wf_facts.specs.declared.sets.FactSet.{FactSet}
-use Rattle.wf_facts.specs.Sets.{member}
-use Rattle.wf_facts.specs.IndexedFacts.{Marks, words_at}
-use Rattle.wf_facts.proofs.DropLemmas.{words_set, words_set_other}
+use Rattle.wf_facts_exprs.specs.declared.sets.FactSet.{FactSet}
+use Rattle.wf_facts_exprs.specs.Sets.{member}
+use Rattle.wf_facts_exprs.proofs.PassLemmas.{equal_numbers}
+use Rattle.wf_facts_exprs.specs.NumberedSets.{Marks, words_at}
+use Rattle.wf_facts_exprs.proofs.NumberedLemmas.{marks-both, marks-same}
+use Rattle.wf_facts.specs.IndexedFacts.{MarksField, MarksThings, field_set, thing_of}
 
-pub marks-same : (n : ℕ) (p q : ℕ → Bool) (xs ys : List FactSet) → ((k : ℕ) → k < 260 → p k ≡ q k) → Marks n p xs ys → Marks n q xs ys
-marks-same n p q xs ys same m k h j low = m k h j low ∙ ap (λ b. (nat_eq j n && b) || member (words_at xs k) j) (same k h)
+-- A field's place.
+field-same : (n c : ℕ) (p q : Thing → Bool) (xs ys : List FactSet) → ((x : Thing) → p x ≡ q x) → MarksField n c p xs ys → MarksField n c q xs ys
+field-same n c p q xs ys same m = record { comes = m.comes; places = m.places; holds = λ x set it. m.holds x set (same (things.Field x) ∙ it) }
 
-pub marks-both : (n : ℕ) (p q : ℕ → Bool) (xs ys zs : List FactSet) → Marks n p xs ys → Marks n q ys zs → Marks n (λ k. p k || q k) xs zs
-marks-both n p q xs ys zs a b k h j low =
-    b k h j low ∙ ap (λ c. (nat_eq j n && q k) || c) (a k h j low) ∙ by (nat_eq j n) (p k) (q k) (member (words_at xs k) j)
+field-both : (n c : ℕ) (p q : Thing → Bool) (xs ys zs : List FactSet) → MarksField n c p xs ys → MarksField n c q ys zs → MarksField n c (λ x. p x || q x) xs zs
+field-both n c p q xs ys zs a b = record {
+  comes = a.comes || b.comes;
+  places = λ j low. b.places j low ∙ ap (λ m. (nat_eq j n && b.comes) || m) (a.places j low) ∙ by (nat_eq j n) a.comes b.comes (member (words_at xs c) j);
+  holds = λ x set it. either (p (things.Field x)) (q (things.Field x)) it (a.holds x set) (b.holds x set);
+}
   where
     by : (e x y m : Bool) → ((e && y) || ((e && x) || m)) ≡ ((e && (x || y)) || m)
     by false x y m = refl
@@ -33,33 +43,66 @@ marks-both n p q xs ys zs a b k h j low =
     by true false true m = refl
     by true false false m = refl
 
--- The sets stand as they did before.
-pub marks-from : (n : ℕ) (p : ℕ → Bool) (xs ys zs : List FactSet) → ((k : ℕ) → words_at ys k ≡ words_at xs k) → Marks n p ys zs → Marks n p xs zs
-marks-from n p xs ys zs same m k h j low = m k h j low ∙ ap (λ ws. (nat_eq j n && p k) || member ws j) (same k)
+    either : (d e : Bool) → (d || e) ≡ true → (d ≡ true → a.comes ≡ true) → (e ≡ true → b.comes ≡ true) → (a.comes || b.comes) ≡ true
+    either true e it one other = rw (one refl) refl
+    either false e it one other = right a.comes b.comes (other it)
+      where
+        right : (d e : Bool) → e ≡ true → (d || e) ≡ true
+        right true e h = refl
+        right false e h = h
 
-pub marks-one : (n : ℕ) (xs : List FactSet) (i : ℕ) (old : List ℕ) (written : FactSet) → i < length xs → words_at xs i ≡ old
-    → ((j : ℕ) → j < 512 → member written.words j ≡ (nat_eq j n || member old j)) → Marks n (λ k. nat_eq k i) xs (slice_set xs i written)
-marks-one n xs i old written within is put k h j low = by (cases_eq k i)
+pub field-none : (n c : ℕ) (p : Thing → Bool) (xs : List FactSet) → ((x : FieldId) → p (things.Field x) ≡ false) → MarksField n c p xs xs
+field-none n c p xs none = record {
+  comes = false;
+  places = λ j low. by (nat_eq j n) (member (words_at xs c) j);
+  holds = λ x set it. absurd (cc (none x, it));
+}
   where
-    there : (e m : Bool) → (e || m) ≡ ((e && true) || m)
-    there true m = refl
-    there false m = refl
+    by : (e m : Bool) → m ≡ ((e && false) || m)
+    by true m = refl
+    by false m = refl
 
-    elsewhere : (e m : Bool) → m ≡ ((e && false) || m)
-    elsewhere true m = refl
-    elsewhere false m = refl
+-- The place of a fact that mentions one field comes into the set that this one shares.
+pub field-one : (n c k : ℕ) (p : Thing → Bool) (xs ys : List FactSet) → c < 260 → Marks n (λ j. nat_eq j k) xs ys → ((x : FieldId) → p (things.Field x) ≡ true → field_set x ≡ k) → MarksField n c p xs ys
+field-one n c k p xs ys low marks only = record {
+  comes = nat_eq c k;
+  places = marks c low;
+  holds = λ x set it. eq-eqb c k (sym set ∙ only x it);
+}
 
-    by : (k ≡ i) ⊎ (k ≡ i → ⊥) → member (words_at (slice_set xs i written) k) j ≡ ((nat_eq j n && nat_eq k i) || member (words_at xs k) j)
-    by (inl e) =
-        let R : ℕ → Type 0 = λ k. member (words_at (slice_set xs i written) k) j ≡ ((nat_eq j n && nat_eq k i) || member (words_at xs k) j) in
-        let own : nat_eq i i ≡ true = grind (arith, nat_tests) in
-        subst R (sym e) (ap (λ ws. member ws j) (words_set xs i written within) ∙ put j low ∙ ap (λ ws. nat_eq j n || member ws j) (sym is) ∙ there (nat_eq j n) (member (words_at xs i) j)
-        ∙ ap (λ b. (nat_eq j n && b) || member (words_at xs i) j) (sym own))
-    by (inr e) =
-        let other : nat_eq k i ≡ false = grind (arith, nat_tests, e) in
-        ap (λ ws. member ws j) (words_set_other xs i k written e) ∙ elsewhere (nat_eq j n) (member (words_at xs k) j) ∙ ap (λ b. (nat_eq j n && b) || member (words_at xs k) j) (sym other)
+pub field_named : (x : FieldId) (ty : Ty) (k : ℕ) → k ≡ field_set x → (y : FieldId) → head_mentions (things.Field y) ty (exprs.Field x) ≡ true → field_set y ≡ k
+field_named x ty k is y it = ap (λ m. m % 128) (equal_numbers y.0 x.0 it) ∙ sym is
+
+-- All things.
+pub things-same : (n : ℕ) (p q : Thing → Bool) (sets fields sets' fields' : List FactSet) → ((x : Thing) → p x ≡ q x) → MarksThings n p sets fields sets' fields' → MarksThings n q sets fields sets' fields'
+things-same n p q sets fields sets' fields' same m = record {
+  things = marks-same n (λ k. p (thing_of k)) (λ k. q (thing_of k)) sets sets' (λ k h. same (thing_of k)) m.things;
+  shared = λ c low. field-same n c p q fields fields' same (m.shared c low);
+}
+
+pub things-both : (n : ℕ) (p q : Thing → Bool) (sets fields sets' fields' sets'' fields'' : List FactSet) → MarksThings n p sets fields sets' fields' → MarksThings n q sets' fields' sets'' fields''
+    → MarksThings n (λ x. p x || q x) sets fields sets'' fields''
+things-both n p q sets fields sets' fields' sets'' fields'' a b = record {
+  things = marks-both n (λ k. p (thing_of k)) (λ k. q (thing_of k)) sets sets' sets'' a.things b.things;
+  shared = λ c low. field-both n c p q fields fields' fields'' (a.shared c low) (b.shared c low);
+}
+
+pub things-none : (n : ℕ) (p : Thing → Bool) (sets fields : List FactSet) → ((x : Thing) → p x ≡ false) → MarksThings n p sets fields sets fields
+things-none n p sets fields none = record {
+  things = λ k h j low. by (nat_eq j n) (p (thing_of k)) (member (words_at sets k) j) (none (thing_of k));
+  shared = λ c low. field-none n c p fields (λ x. none (things.Field x));
+}
+  where
+    by : (e q m : Bool) → q ≡ false → m ≡ ((e && q) || m)
+    by true true m h = absurd (cc (h))
+    by true false m h = refl
+    by false q m h = refl
 
 -- The parts so far.
+pub none_more : (b : Bool) → b ≡ (b || false)
+none_more true = refl
+none_more false = refl
+
 pub or-again : (a b c : Bool) → ((a || b) || c) ≡ (a || (b || c))
 or-again true b c = refl
 or-again false b c = refl

@@ -5,4 +5,3 @@ pub mod FactLists
 pub mod Forms
 pub mod IndexedFacts
 pub mod PlainNumbers
-pub mod Sets

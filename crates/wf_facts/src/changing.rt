@@ -1,39 +1,28 @@
 // What is still known of a number once it has changed.
 
-ghost use Rattle.std.specs.Prelude.{◌≡◌, ◌≤◌, ◌<◌, ◌^◌, length, true, option_map, IfSome};
+ghost use Rattle.std.specs.Prelude.{◌≡◌, ℕ, ◌≤◌, ◌<◌, ◌^◌, length, true, option_map, IfSome};
 ghost use Rattle.wf_ast.specs.declared.things.Thing.{Thing};
-ghost use Rattle.wf_ast.specs.declared.things.Thing.TheVariants as things;
-ghost use Rattle.wf_facts.specs.declared.changes.Change.TheVariants as changes;
 ghost use Rattle.wf_facts_exprs.specs.declared.facts.Fact.TheVariants as facts;
+ghost use Rattle.wf_facts_exprs.specs.Heads.{claim_head, having_head};
 ghost use Rattle.wf_facts_exprs.specs.Claims.{claim_in, claims_in, claim_mentions, is_fact, AreFacts, order_of};
 ghost use Rattle.wf_facts.specs.FactLists.{changed, in_64_bits as number_in_64_bits, moved_number as number_moved, moves_with as order_moves_with, is_variable as form_is_variable, is_io_length as form_is_io_length, is_least as order_is_least, still_known as claim_still_known};
-ghost use Rattle.wf_facts.specs.IndexedFacts.{IsOver, IsNamedInSets, mentioning};
-ghost use Rattle.wf_facts.specs.Sets.{IsSetOf, members, unmarked};
+ghost use Rattle.wf_facts.specs.IndexedFacts.{AreOver, IsNamedInSets, mentioning};
+ghost use Rattle.wf_facts_exprs.specs.Sets.{IsSetOf, members, unmarked};
 
 use crate::changes::Change;
 use crate::forms::{Form, side_form, side_number};
-use crate::list::Facts;
-use crate::sets::FactSet;
-use wf_ast::{ArgId, Thing, Typed};
-use wf_facts_exprs::{Cmp, Fact, Side};
+use crate::indexed::Indexed;
+use wf_ast::{Thing, Typed};
+use wf_facts_exprs::{Cmp, Fact, FactSet, Side};
 
-impl Facts {
-    /// The length of a reader or a writer shrinks by at most `k`, or by what isn't known: that it is at least a number, or
-    /// above one, goes on with the number less `k` where `k` doesn't exceed it; all other facts that mention it are dropped.
-    pub fn lower_length(&mut self, t: &Typed, io: ArgId, k: Option<u64>)
-        requires over { IsOver t.now self.old }
-        ensures over { IsOver t.now self.new }
-        ensures claims { claims_in t.now self.new.list ≡ changed (things.Arg io) (changes.Shortened k) (claims_in t.now self.old.list) }
-    {
-        self.change(t, Thing::Arg(io), Change::Shortened(k));
-    }
-
+impl Indexed {
     /// Takes the facts that mention a thing along with its change, and drops those of which nothing is known any more.
     /// The order of all stays.
-    pub fn change(&mut self, t: &Typed, x: Thing, change: Change)
+    pub(crate) fn change(&mut self, t: &Typed, x: Thing, change: Change)
         requires few { IsNamedInSets x }
-        requires over { IsOver t.now self.old }
-        ensures over { IsOver t.now self.new }
+        requires over { AreOver t.now self.old }
+        ensures over { AreOver t.now self.new }
+        ensures few { length self.new.list ≤ 512 }
         ensures claims { claims_in t.now self.new.list ≡ changed x change (claims_in t.now self.old.list) }
     {
         let meant = self.meant(t, x);
@@ -48,6 +37,7 @@ fn renew(t: &Typed, list: &mut [Fact], meant: &FactSet, change: Change) -> FactS
     requires facts { AreFacts t.now list.old }
     ensures facts { AreFacts t.now list.new }
     ensures same { (x : Thing) → mentioning t.now x list.new ≡ mentioning t.now x list.old }
+    ensures heads { (h : ℕ) → having_head t.now h list.new ≡ having_head t.now h list.old }
     ensures claims { (x : Thing) → IsSetOf meant.now.words (mentioning t.now x list.old) → claims_in t.now (unmarked (members result.words (length list.old)) list.new) ≡ changed x change (claims_in t.now list.old) }
 {
     let mut dropped = FactSet::new();
@@ -70,6 +60,7 @@ pub(crate) fn still_known(t: &Typed, f: Fact, change: Change) -> Option<Fact>
     ensures claims { option_map (λ g. claim_in t.now g) result ≡ claim_still_known change (claim_in t.now f) }
     ensures facts { IfSome result (λ g. is_fact t.now g ≡ true) }
     ensures same { IfSome result (λ g. (x : Thing) → claim_mentions x (claim_in t.now g) ≡ claim_mentions x (claim_in t.now f)) }
+    ensures head { IfSome result (λ g. claim_head (claim_in t.now g) ≡ claim_head (claim_in t.now f)) }
 {
     match f {
         Fact::Compare { left, op, right } => comparison_known(t, left, op, right, change),
@@ -82,6 +73,7 @@ fn comparison_known(t: &Typed, left: Side, op: Cmp, right: Side, change: Change)
     ensures claims { option_map (λ g. claim_in t.now g) result ≡ claim_still_known change (claim_in t.now (facts.Compare left op right)) }
     ensures facts { IfSome result (λ g. is_fact t.now g ≡ true) }
     ensures same { IfSome result (λ g. (x : Thing) → claim_mentions x (claim_in t.now g) ≡ claim_mentions x (claim_in t.now (facts.Compare left op right))) }
+    ensures head { IfSome result (λ g. claim_head (claim_in t.now g) ≡ claim_head (claim_in t.now (facts.Compare left op right))) }
 {
     let n = side_number(t, right)?;
     if !moves_with(change, side_form(t, left), op) {

@@ -8,7 +8,7 @@ ghost use Rattle.wf_facts_exprs.specs.Claims.{claims_in};
 ghost use Rattle.wf_facts.specs.Examples.{digit_facts, is_no_digit, is_zero};
 ghost use Rattle.wf_facts.specs.FactLists.{with_condition, without};
 ghost use Rattle.wf_facts.specs.IndexedFacts.{FactList, mentioning};
-ghost use Rattle.wf_facts.specs.Sets.{IsSetOf};
+ghost use Rattle.wf_facts_exprs.specs.Sets.{IsSetOf};
 
 /// After `if c == 0` and `if (c < 48) or (57 < c)`, which both leave, three facts stand: `c <> 0`, `c >= 48`, `c <= 57`.
 pub fn facts_of_a_digit()

@@ -13,7 +13,7 @@ ghost use Rattle.wf_facts_exprs.specs.Claims.{Claim, AllTrue, claim_truth};
 ghost use Rattle.wf_facts.specs.declared.changes.Change.{Change};
 ghost use Rattle.wf_facts.specs.FactLists.{added, with_condition, without, common, changed};
 ghost use Rattle.wf_facts.specs.Changes.{TakesPlace, has_no_sum};
-ghost use Rattle.wf_facts.specs.Sets.{IsSetOf};
+ghost use Rattle.wf_facts_exprs.specs.Sets.{IsSetOf};
 
 /// A true fact joins true facts, and so do those of a condition that has the answer.
 pub fn what_is_added_is_true()

@@ -9,13 +9,12 @@ mod conditions;
 mod dropping;
 pub mod examples;
 mod forms;
+mod indexed;
 pub mod laws;
 mod list;
 mod marking;
 mod mentioning;
-mod numbered;
 mod sameness;
-mod sets;
 
 pub use adding::Full;
 pub use changes::Change;

@@ -1,10 +1,8 @@
 -- What a list says of a tree it says of every tree that is alike.
-use Rattle.std.proofs.Common.{◌≡◌, ℕ, zero, suc, ◌<◌, Bool, true, false, ◌&&◌, ◌||◌, List, [], ◌∷◌, length, get_or, refl, sym, ap, ◌∙◌, arith}
+use Rattle.std.proofs.Common.{◌≡◌, ℕ, ◌&&◌, ◌||◌, List, [], ◌∷◌, refl, sym, ap, ◌∙◌}
 use Rattle.wf_num.specs.declared.ranges.Range.{Range}
 use Rattle.wf_ast.specs.TypedTree.{Order, NumTree}
-use Rattle.wf_ast.specs.declared.typed_nodes.TypedNodes.{TypedNodes}
-use Rattle.wf_facts_exprs.specs.declared.facts.Fact.{Fact}
-use Rattle.wf_facts_exprs.specs.Claims.{SideTree, Claim, claim_in, claims_in, compared, stands, tree_of_side, flip}
+use Rattle.wf_facts_exprs.specs.Claims.{SideTree, Claim, compared, stands, tree_of_side, flip}
 use Rattle.wf_facts_exprs.specs.RangeOf.{claim_gives, first_rule, allows_no_more, met_with, met_by, passed, met, narrowed, thinned, number_of_side}
 use Rattle.wf_facts_exprs.specs.Shapes.{Alike}
 
@@ -26,16 +24,6 @@ first-alike (f ∷ fs) op a a' b b' h k =
     let i = claim-alike f op a a' b b' h k in
     let j = first-alike fs op a a' b b' h k in
     λ n. i n || j n
-
--- A comparison that one of the facts gives is given by the first rule.
-pub first-at : (nodes : TypedNodes) (fs : List Fact) (i : ℕ) (d : Fact) (a : SideTree) (op : Order) (b : SideTree) → i < length fs → claim_gives (claim_in nodes (get_or fs i d)) a op b ≡ true → first_rule (claims_in nodes fs) a op b ≡ true
-first-at nodes [] i d a op b h gives = absurd (omega (arith, h))
-first-at nodes (f ∷ fs) zero d a op b h gives = rw (gives) refl
-first-at nodes (f ∷ fs) (suc i) d a op b h gives = or-right (claim_gives (claim_in nodes f) a op b) _ (first-at nodes fs i d a op b (omega (arith, h)) gives)
-  where
-    or-right : (p q : Bool) → q ≡ true → (p || q) ≡ true
-    or-right true q h = refl
-    or-right false q h = h
 
 met_by-alike : (pass : Order → ℕ → Range → Range) (f : Claim) (t u : NumTree) (r : Range) → Alike t u → met_by pass f t r ≡ met_by pass f u r
 met_by-alike pass (stands d answer) t u r h = refl

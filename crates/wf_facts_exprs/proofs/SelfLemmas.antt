@@ -26,7 +26,7 @@ width-self mod_shift_left bits = number-self bits
 width-self op bits = refl
 
 mutual
-  num-self : (t : NumTree) → same_num t t ≡ true
+  pub num-self : (t : NumTree) → same_num t t ≡ true
   num-self (number at n) = number-self n
   num-self (read at of p) = path-self p
   num-self (element at of cells index) = and_true _ _ (slice-self cells) (num-self index)

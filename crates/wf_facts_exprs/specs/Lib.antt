@@ -1,7 +1,12 @@
 pub mod Claims
 pub mod Demands
 pub mod Given
+pub mod HeadRules
+pub mod Heads
+pub mod Knowledge
 pub mod LawfulState
+pub mod NumberedSets
 pub mod Operands
 pub mod RangeOf
+pub mod Sets
 pub mod Shapes

@@ -6,12 +6,13 @@ ghost use Rattle.wf_ast.specs.TypedTrees.{chain_of, place_of_node, signs_of_node
 ghost use Rattle.wf_ast.specs.TypedInvariant.{chain_fits, is_expr};
 ghost use Rattle.wf_ast.specs.NodeKinds.{is_condition_at, is_number_at, node_cond, node_number};
 ghost use Rattle.wf_ast.specs.OperatorForms.{is_joining};
-ghost use Rattle.wf_facts_exprs.specs.Claims.{AreFacts, claims_in};
+ghost use Rattle.wf_facts_exprs.specs.Knowledge.{IsKnown, told};
+ghost use Rattle.wf_facts_exprs.specs.Claims.{claims_in};
 ghost use Rattle.wf_facts_exprs.specs.Demands.{cond_refusal, num_refusal, or_else, unless_refused, value_refusal};
 ghost use Rattle.wf_facts_exprs.specs.Operands.{conds_refusal, is_condition_below};
 
-use crate::facts::Fact;
 use crate::judging::{judge, judge_slice};
+use crate::known::Known;
 use crate::operands::{is_number, joins};
 use crate::shapes::look_at;
 use wf_ast::{Expr, ExprId, Op, Ty, Typed};
@@ -22,10 +23,10 @@ use wf_text::Refusal;
 /// the new one (B1), an index not below the length (B2), slice ends out of order or past the length (B3), a shift by the
 /// width or more (B4), a divisor that may be 0 (B5), or a peek without its bytes (B9), at the operator's sign, at the `[`
 /// or at the method's name. It takes no memory, and recurses as deep as brackets nest.
-pub fn check_value(t: &Typed, facts: &[Fact], e: ExprId) -> Result<(), Refusal>
-    requires known { AreFacts t.now facts.now }
+pub fn check_value(t: &Typed, facts: &Known, e: ExprId) -> Result<(), Refusal>
+    requires known { IsKnown t.now facts.now }
     requires node { IsTrue (is_expr t.now e) }
-    ensures { result ≡ unless_refused (value_refusal (claims_in t.now facts.now) (tree_of t.now e)) tt }
+    ensures { result ≡ unless_refused (value_refusal (claims_in t.now (told facts.now)) (tree_of t.now e)) tt }
 {
     let _expr = t.expr(e);
     match t.type_of(e) {
@@ -41,10 +42,10 @@ pub fn check_value(t: &Typed, facts: &[Fact], e: ExprId) -> Result<(), Refusal>
 }
 
 // The demands of a number; a constant and a variable have none.
-fn check_number(t: &Typed, facts: &[Fact], e: ExprId) -> Result<(), Refusal>
-    requires known { AreFacts t.now facts.now }
+fn check_number(t: &Typed, facts: &Known, e: ExprId) -> Result<(), Refusal>
+    requires known { IsKnown t.now facts.now }
     requires node { IsTrue (is_number_at t.now e) }
-    ensures { result ≡ unless_refused (num_refusal (claims_in t.now facts.now) false (node_number t.now e)) tt }
+    ensures { result ≡ unless_refused (num_refusal (claims_in t.now (told facts.now)) false (node_number t.now e)) tt }
 {
     let expr = t.expr(e);
     match t.constant(e) {
@@ -56,10 +57,10 @@ fn check_number(t: &Typed, facts: &[Fact], e: ExprId) -> Result<(), Refusal>
     }
 }
 
-fn check_judged(t: &Typed, facts: &[Fact], e: ExprId) -> Result<(), Refusal>
-    requires known { AreFacts t.now facts.now }
+fn check_judged(t: &Typed, facts: &Known, e: ExprId) -> Result<(), Refusal>
+    requires known { IsKnown t.now facts.now }
     requires node { IsTrue (is_number_at t.now e) }
-    ensures { result ≡ unless_refused (num_refusal (claims_in t.now facts.now) false (node_number t.now e)) tt }
+    ensures { result ≡ unless_refused (num_refusal (claims_in t.now (told facts.now)) false (node_number t.now e)) tt }
 {
     judge(t, facts, e)?;
     Ok(())
@@ -67,10 +68,10 @@ fn check_judged(t: &Typed, facts: &[Fact], e: ExprId) -> Result<(), Refusal>
 
 // Those of a condition.
 #[cycle(conditions)]
-fn check_condition(t: &Typed, facts: &[Fact], e: ExprId) -> Result<(), Refusal>
-    requires known { AreFacts t.now facts.now }
+fn check_condition(t: &Typed, facts: &Known, e: ExprId) -> Result<(), Refusal>
+    requires known { IsKnown t.now facts.now }
     requires node { IsTrue (is_condition_at t.now e) }
-    ensures { result ≡ unless_refused (cond_refusal (claims_in t.now facts.now) (node_cond t.now e)) tt }
+    ensures { result ≡ unless_refused (cond_refusal (claims_in t.now (told facts.now)) (node_cond t.now e)) tt }
 {
     let expr = t.expr(e);
     match t.constant(e) {
@@ -90,19 +91,13 @@ fn check_condition(t: &Typed, facts: &[Fact], e: ExprId) -> Result<(), Refusal>
 }
 
 #[cycle(conditions)]
-fn check_chain(
-    t: &Typed,
-    facts: &[Fact],
-    e: ExprId,
-    op: Op,
-    parts: &[ExprId],
-) -> Result<(), Refusal>
-    requires known { AreFacts t.now facts.now }
+fn check_chain(t: &Typed, facts: &Known, e: ExprId, op: Op, parts: &[ExprId]) -> Result<(), Refusal>
+    requires known { IsKnown t.now facts.now }
     requires node { IsTrue (is_condition_at t.now e) }
     requires tree { tree_of t.now e ≡ chain_of (place_of_node t.now e.0) (signs_of_node t.now e.0) (type_of_node t.now e.0) (operator_kind op) (map (tree_of t.now) parts.now) }
     requires fits { IsTrue (chain_fits t.now (operator_kind op) parts.now (type_of_node t.now e.0)) }
     requires below { IsTrue (list_all (λ p. nat_lt p.0 e.0) parts.now) }
-    ensures { result ≡ unless_refused (cond_refusal (claims_in t.now facts.now) (node_cond t.now e)) tt }
+    ensures { result ≡ unless_refused (cond_refusal (claims_in t.now (told facts.now)) (node_cond t.now e)) tt }
 {
     if joins(op) {
         check_all(t, facts, e, parts)
@@ -114,18 +109,18 @@ fn check_chain(
 // The operands of a comparison: numbers, or statuses, which demand nothing.
 fn check_operands(
     t: &Typed,
-    facts: &[Fact],
+    facts: &Known,
     e: ExprId,
     op: Op,
     parts: &[ExprId],
 ) -> Result<(), Refusal>
-    requires known { AreFacts t.now facts.now }
+    requires known { IsKnown t.now facts.now }
     requires node { IsTrue (is_condition_at t.now e) }
     requires tree { tree_of t.now e ≡ chain_of (place_of_node t.now e.0) (signs_of_node t.now e.0) (type_of_node t.now e.0) (operator_kind op) (map (tree_of t.now) parts.now) }
     requires fits { IsTrue (chain_fits t.now (operator_kind op) parts.now (type_of_node t.now e.0)) }
     requires below { IsTrue (list_all (λ p. nat_lt p.0 e.0) parts.now) }
     requires compares { is_joining (operator_kind op) ≡ false }
-    ensures { result ≡ unless_refused (cond_refusal (claims_in t.now facts.now) (node_cond t.now e)) tt }
+    ensures { result ≡ unless_refused (cond_refusal (claims_in t.now (told facts.now)) (node_cond t.now e)) tt }
 {
     look_at(t, parts[0]);
     if is_number(t, parts[0]) {
@@ -136,11 +131,11 @@ fn check_operands(
 }
 
 // Two numbers, in order.
-fn check_pair(t: &Typed, facts: &[Fact], a: ExprId, b: ExprId) -> Result<(), Refusal>
-    requires known { AreFacts t.now facts.now }
+fn check_pair(t: &Typed, facts: &Known, a: ExprId, b: ExprId) -> Result<(), Refusal>
+    requires known { IsKnown t.now facts.now }
     requires left { IsTrue (is_number_at t.now a) }
     requires right { IsTrue (is_number_at t.now b) }
-    ensures { result ≡ unless_refused (or_else (num_refusal (claims_in t.now facts.now) false (node_number t.now a)) (num_refusal (claims_in t.now facts.now) false (node_number t.now b))) tt }
+    ensures { result ≡ unless_refused (or_else (num_refusal (claims_in t.now (told facts.now)) false (node_number t.now a)) (num_refusal (claims_in t.now (told facts.now)) false (node_number t.now b))) tt }
 {
     check_number(t, facts, a)?;
     check_number(t, facts, b)
@@ -148,10 +143,10 @@ fn check_pair(t: &Typed, facts: &[Fact], a: ExprId, b: ExprId) -> Result<(), Ref
 
 // Conditions, in order.
 #[cycle(conditions)]
-fn check_all(t: &Typed, facts: &[Fact], e: ExprId, parts: &[ExprId]) -> Result<(), Refusal>
-    requires known { AreFacts t.now facts.now }
+fn check_all(t: &Typed, facts: &Known, e: ExprId, parts: &[ExprId]) -> Result<(), Refusal>
+    requires known { IsKnown t.now facts.now }
     requires parts { IsTrue (list_all (is_condition_below t.now e) parts.now) }
-    ensures { result ≡ unless_refused (conds_refusal (claims_in t.now facts.now) t.now parts.now) tt }
+    ensures { result ≡ unless_refused (conds_refusal (claims_in t.now (told facts.now)) t.now parts.now) tt }
 {
     for i in 0..parts.len() {
         check_condition(t, facts, parts[i])?;

@@ -1,13 +1,16 @@
 // What a list of facts gives of two sides: by a fact that compares them, or by their ranges.
 
-ghost use Rattle.std.specs.Prelude.{◌≡◌, ◌&&◌, ◌||◌, true, IsTrue, pos, int_lt, int_le};
-ghost use Rattle.wf_facts_exprs.specs.Claims.{AreFacts, claim_in, claims_in, flip as flipped, is_fact, is_side, order_of, same_side, side_in, single};
+ghost use Rattle.std.specs.Prelude.{◌≡◌, ◌<◌, ◌&&◌, ◌||◌, true, IsTrue, pos, int_lt, int_le};
+ghost use Rattle.wf_facts_exprs.specs.Knowledge.{IsKnown, told};
+ghost use Rattle.wf_facts_exprs.specs.Claims.{claim_in, claims_in, flip as flipped, is_fact, is_side, order_of, same_side, side_in, single};
 ghost use Rattle.wf_facts_exprs.specs.RangeOf.{allows_equal as order_allows_equal, allows_greater as order_allows_greater, allows_less as order_allows_less, allows_no_more as order_allows_no_more, claim_gives, first_rule as by_first_rule};
+ghost use Rattle.wf_facts_exprs.specs.HeadRules.{head_gives};
 ghost use Rattle.wf_facts_exprs.specs.Given.{decided as decided_by, second_rule as by_second_rule};
 ghost use Rattle.wf_facts_exprs.specs.Shapes.{shape_fits, shape_tree};
 
 use crate::facts::{Cmp, Fact, Side};
-use crate::meeting::{is_other_side, is_side_of};
+use crate::known::{Known, shape_head};
+use crate::meeting::is_side_of;
 use crate::shapes::{Shape, shape_of};
 use wf_ast::Typed;
 use wf_num::Range;
@@ -20,22 +23,22 @@ pub(crate) struct Ranged {
 }
 
 /// Whether a comparison of two sides with known ranges is given.
-pub(crate) fn gives_ranged(t: &Typed, facts: &[Fact], left: Ranged, op: Cmp, right: Ranged) -> bool
-    requires known { AreFacts t.now facts.now }
+pub(crate) fn gives_ranged(t: &Typed, facts: &Known, left: Ranged, op: Cmp, right: Ranged) -> bool
+    requires known { IsKnown t.now facts.now }
     requires left { IsTrue (is_side t.now left.side) }
     requires right { IsTrue (is_side t.now right.side) }
-    ensures { result ≡ by_first_rule (claims_in t.now facts.now) (side_in t.now left.side) (order_of op) (side_in t.now right.side)
+    ensures { result ≡ by_first_rule (claims_in t.now (told facts.now)) (side_in t.now left.side) (order_of op) (side_in t.now right.side)
         || by_second_rule (order_of op) left.range right.range }
 {
     second_rule(op, left.range, right.range) || first_rule(t, facts, left.side, op, right.side)
 }
 
 /// Whether there is a fact of the same two sides that allows nothing but what the comparison does.
-pub(crate) fn first_rule(t: &Typed, facts: &[Fact], left: Side, op: Cmp, right: Side) -> bool
-    requires known { AreFacts t.now facts.now }
+pub(crate) fn first_rule(t: &Typed, facts: &Known, left: Side, op: Cmp, right: Side) -> bool
+    requires known { IsKnown t.now facts.now }
     requires left { IsTrue (is_side t.now left) }
     requires right { IsTrue (is_side t.now right) }
-    ensures { result ≡ by_first_rule (claims_in t.now facts.now) (side_in t.now left) (order_of op) (side_in t.now right) }
+    ensures { result ≡ by_first_rule (claims_in t.now (told facts.now)) (side_in t.now left) (order_of op) (side_in t.now right) }
 {
     any_gives(t, facts, shape_of(t, left), op, shape_of(t, right))
 }
@@ -43,33 +46,57 @@ pub(crate) fn first_rule(t: &Typed, facts: &[Fact], left: Side, op: Cmp, right: 
 /// Whether the fact at a place of the list is one of the same two sides that allows nothing but what the comparison does.
 pub(crate) fn first_rule_at(
     t: &Typed,
-    facts: &[Fact],
+    facts: &Known,
     place: usize,
     left: Side,
     op: Cmp,
     right: Side,
 ) -> bool
-    requires known { AreFacts t.now facts.now }
+    requires known { IsKnown t.now facts.now }
     requires left { IsTrue (is_side t.now left) }
     requires right { IsTrue (is_side t.now right) }
-    ensures { IsTrue result → by_first_rule (claims_in t.now facts.now) (side_in t.now left) (order_of op) (side_in t.now right) ≡ true }
+    ensures { IsTrue result → by_first_rule (claims_in t.now (told facts.now)) (side_in t.now left) (order_of op) (side_in t.now right) ≡ true }
 {
-    if place >= facts.len() {
+    if place >= facts.list.len() || facts.gone.has(place) {
         return false;
     }
-    fact_gives(t, facts[place], shape_of(t, left), op, shape_of(t, right))
+    fact_gives(
+        t,
+        facts.list[place],
+        shape_of(t, left),
+        op,
+        shape_of(t, right),
+    )
 }
 
-fn any_gives(t: &Typed, facts: &[Fact], a: Shape, op: Cmp, b: Shape) -> bool
-    requires known { AreFacts t.now facts.now }
+// A fact of the same two sides has the head of one of them.
+fn any_gives(t: &Typed, facts: &Known, a: Shape, op: Cmp, b: Shape) -> bool
+    requires known { IsKnown t.now facts.now }
     requires left { IsTrue (shape_fits t.now a) }
     requires right { IsTrue (shape_fits t.now b) }
-    ensures { result ≡ by_first_rule (claims_in t.now facts.now) (single (shape_tree t.now a)) (order_of op) (single (shape_tree t.now b)) }
+    ensures { result ≡ by_first_rule (claims_in t.now (told facts.now)) (single (shape_tree t.now a)) (order_of op) (single (shape_tree t.now b)) }
 {
-    for fact in facts {
-        if fact_gives(t, *fact, a, op, b) {
+    let head = shape_head(t, a);
+    let other = shape_head(t, b);
+    gives_with(t, facts, head, a, op, b) || (other != head && gives_with(t, facts, other, a, op, b))
+}
+
+// The same of the facts with one head.
+fn gives_with(t: &Typed, facts: &Known, head: usize, a: Shape, op: Cmp, b: Shape) -> bool
+    requires known { IsKnown t.now facts.now }
+    requires head { head < 256 }
+    requires left { IsTrue (shape_fits t.now a) }
+    requires right { IsTrue (shape_fits t.now b) }
+    ensures { result ≡ head_gives head (claims_in t.now (told facts.now)) (single (shape_tree t.now a)) (order_of op) (single (shape_tree t.now b)) }
+{
+    let set = facts.heads.at(head);
+    let n = facts.list.len();
+    let mut i = set.first_but(facts.gone, 0, n);
+    while i < n {
+        if fact_gives(t, facts.list[i], a, op, b) {
             return true;
         }
+        i = set.first_but(facts.gone, i + 1, n);
     }
     false
 }
@@ -86,9 +113,6 @@ fn fact_gives(t: &Typed, fact: Fact, a: Shape, op: Cmp, b: Shape) -> bool
             op: known,
             right,
         } => {
-            if is_other_side(t, left, a) && is_other_side(t, left, b) {
-                return false;
-            }
             are_sides_of(t, left, a, right, b, allows_no_more(known, op))
                 || are_sides_of(t, left, b, right, a, allows_no_more(flip(known), op))
         }

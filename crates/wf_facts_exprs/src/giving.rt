@@ -7,13 +7,15 @@ ghost use Rattle.wf_ast.specs.TypedTrees.{chain_of, place_of_node, signs_of_node
 ghost use Rattle.wf_ast.specs.TypedInvariant.{chain_fits};
 ghost use Rattle.wf_ast.specs.NodeKinds.{is_condition_at, is_number_at, node_cond, node_number};
 ghost use Rattle.wf_ast.specs.OperatorForms.{is_joining};
-ghost use Rattle.wf_facts_exprs.specs.Claims.{AreFacts, claim_in, claims_in, is_fact, order_of, same_claim, single, stands as standing_claim};
+ghost use Rattle.wf_facts_exprs.specs.Knowledge.{IsKnown, told};
+ghost use Rattle.wf_facts_exprs.specs.Claims.{claim_in, claims_in, is_fact, order_of, same_claim, single, stands as standing_claim};
 ghost use Rattle.wf_facts_exprs.specs.Demands.{cond_refusal, num_refusal};
 ghost use Rattle.wf_facts_exprs.specs.Given.{gives as given, gives_sides as sides_given, is_standing};
 ghost use Rattle.wf_facts_exprs.specs.Operands.{all_given, any_given, conds_refusal, is_condition_below};
 
 use crate::facts::{Cmp, Fact, Side};
 use crate::given::first_rule_at;
+use crate::known::Known;
 use crate::operands::{compared_by, is_number, joins, needs_all};
 use crate::ranges::gives_sides;
 use crate::shapes::look_at;
@@ -23,11 +25,11 @@ use wf_ast::{Expr, ExprId, Op, Typed, same};
 /// operands of `and` with yes, and of `or` with no, have to be given; of `and` with no, and of `or` with yes, one of them,
 /// or the condition itself stands among the facts. It takes no memory, and recurses as deep as brackets nest.
 #[cycle(giving)]
-pub fn gives(t: &Typed, facts: &[Fact], e: ExprId, answer: bool) -> bool
-    requires known { AreFacts t.now facts.now }
+pub fn gives(t: &Typed, facts: &Known, e: ExprId, answer: bool) -> bool
+    requires known { IsKnown t.now facts.now }
     requires node { IsTrue (is_condition_at t.now e) }
-    requires fine { cond_refusal (claims_in t.now facts.now) (node_cond t.now e) ≡ None }
-    ensures { result ≡ given (claims_in t.now facts.now) (node_cond t.now e) answer }
+    requires fine { cond_refusal (claims_in t.now (told facts.now)) (node_cond t.now e) ≡ None }
+    ensures { result ≡ given (claims_in t.now (told facts.now)) (node_cond t.now e) answer }
 {
     let expr = t.expr(e);
     match t.constant(e) {
@@ -47,14 +49,14 @@ pub fn gives(t: &Typed, facts: &[Fact], e: ExprId, answer: bool) -> bool
 }
 
 #[cycle(giving)]
-fn gives_chain(t: &Typed, facts: &[Fact], e: ExprId, op: Op, parts: &[ExprId], answer: bool) -> bool
-    requires known { AreFacts t.now facts.now }
+fn gives_chain(t: &Typed, facts: &Known, e: ExprId, op: Op, parts: &[ExprId], answer: bool) -> bool
+    requires known { IsKnown t.now facts.now }
     requires node { IsTrue (is_condition_at t.now e) }
     requires tree { tree_of t.now e ≡ chain_of (place_of_node t.now e.0) (signs_of_node t.now e.0) (type_of_node t.now e.0) (operator_kind op) (map (tree_of t.now) parts.now) }
     requires fits { IsTrue (chain_fits t.now (operator_kind op) parts.now (type_of_node t.now e.0)) }
     requires below { IsTrue (list_all (λ p. nat_lt p.0 e.0) parts.now) }
-    requires fine { cond_refusal (claims_in t.now facts.now) (node_cond t.now e) ≡ None }
-    ensures { result ≡ given (claims_in t.now facts.now) (node_cond t.now e) answer }
+    requires fine { cond_refusal (claims_in t.now (told facts.now)) (node_cond t.now e) ≡ None }
+    ensures { result ≡ given (claims_in t.now (told facts.now)) (node_cond t.now e) answer }
 {
     if !joins(op) {
         gives_comparison(t, facts, e, op, parts, answer)
@@ -66,11 +68,11 @@ fn gives_chain(t: &Typed, facts: &[Fact], e: ExprId, op: Op, parts: &[ExprId], a
 }
 
 #[cycle(giving)]
-fn gives_all(t: &Typed, facts: &[Fact], e: ExprId, parts: &[ExprId], answer: bool) -> bool
-    requires known { AreFacts t.now facts.now }
+fn gives_all(t: &Typed, facts: &Known, e: ExprId, parts: &[ExprId], answer: bool) -> bool
+    requires known { IsKnown t.now facts.now }
     requires parts { IsTrue (list_all (is_condition_below t.now e) parts.now) }
-    requires fine { conds_refusal (claims_in t.now facts.now) t.now parts.now ≡ None }
-    ensures { result ≡ all_given (claims_in t.now facts.now) t.now parts.now answer }
+    requires fine { conds_refusal (claims_in t.now (told facts.now)) t.now parts.now ≡ None }
+    ensures { result ≡ all_given (claims_in t.now (told facts.now)) t.now parts.now answer }
 {
     for i in 0..parts.len() {
         if !gives(t, facts, parts[i], answer) {
@@ -81,11 +83,11 @@ fn gives_all(t: &Typed, facts: &[Fact], e: ExprId, parts: &[ExprId], answer: boo
 }
 
 #[cycle(giving)]
-fn gives_any(t: &Typed, facts: &[Fact], e: ExprId, parts: &[ExprId], answer: bool) -> bool
-    requires known { AreFacts t.now facts.now }
+fn gives_any(t: &Typed, facts: &Known, e: ExprId, parts: &[ExprId], answer: bool) -> bool
+    requires known { IsKnown t.now facts.now }
     requires parts { IsTrue (list_all (is_condition_below t.now e) parts.now) }
-    requires fine { conds_refusal (claims_in t.now facts.now) t.now parts.now ≡ None }
-    ensures { result ≡ any_given (claims_in t.now facts.now) t.now parts.now answer }
+    requires fine { conds_refusal (claims_in t.now (told facts.now)) t.now parts.now ≡ None }
+    ensures { result ≡ any_given (claims_in t.now (told facts.now)) t.now parts.now answer }
 {
     for i in 0..parts.len() {
         if gives(t, facts, parts[i], answer) {
@@ -98,20 +100,20 @@ fn gives_any(t: &Typed, facts: &[Fact], e: ExprId, parts: &[ExprId], answer: boo
 // Numbers are compared by the two rules; statuses stand or not.
 fn gives_comparison(
     t: &Typed,
-    facts: &[Fact],
+    facts: &Known,
     e: ExprId,
     op: Op,
     parts: &[ExprId],
     answer: bool,
 ) -> bool
-    requires known { AreFacts t.now facts.now }
+    requires known { IsKnown t.now facts.now }
     requires node { IsTrue (is_condition_at t.now e) }
     requires tree { tree_of t.now e ≡ chain_of (place_of_node t.now e.0) (signs_of_node t.now e.0) (type_of_node t.now e.0) (operator_kind op) (map (tree_of t.now) parts.now) }
     requires fits { IsTrue (chain_fits t.now (operator_kind op) parts.now (type_of_node t.now e.0)) }
     requires below { IsTrue (list_all (λ p. nat_lt p.0 e.0) parts.now) }
     requires compares { is_joining (operator_kind op) ≡ false }
-    requires fine { cond_refusal (claims_in t.now facts.now) (node_cond t.now e) ≡ None }
-    ensures { result ≡ given (claims_in t.now facts.now) (node_cond t.now e) answer }
+    requires fine { cond_refusal (claims_in t.now (told facts.now)) (node_cond t.now e) ≡ None }
+    ensures { result ≡ given (claims_in t.now (told facts.now)) (node_cond t.now e) answer }
 {
     look_at(t, parts[0]);
     if is_number(t, parts[0]) {
@@ -121,22 +123,22 @@ fn gives_comparison(
     }
 }
 
-fn gives_numbers(t: &Typed, facts: &[Fact], a: ExprId, op: Cmp, b: ExprId) -> bool
-    requires known { AreFacts t.now facts.now }
+fn gives_numbers(t: &Typed, facts: &Known, a: ExprId, op: Cmp, b: ExprId) -> bool
+    requires known { IsKnown t.now facts.now }
     requires left { IsTrue (is_number_at t.now a) }
     requires right { IsTrue (is_number_at t.now b) }
-    requires left_fine { num_refusal (claims_in t.now facts.now) false (node_number t.now a) ≡ None }
-    requires right_fine { num_refusal (claims_in t.now facts.now) false (node_number t.now b) ≡ None }
-    ensures { result ≡ sides_given (claims_in t.now facts.now) (single (node_number t.now a)) (order_of op) (single (node_number t.now b)) }
+    requires left_fine { num_refusal (claims_in t.now (told facts.now)) false (node_number t.now a) ≡ None }
+    requires right_fine { num_refusal (claims_in t.now (told facts.now)) false (node_number t.now b) ≡ None }
+    ensures { result ≡ sides_given (claims_in t.now (told facts.now)) (single (node_number t.now a)) (order_of op) (single (node_number t.now b)) }
 {
     gives_sides(t, facts, Side::Expr(a), op, Side::Expr(b))
 }
 
 /// Whether the fact at a place of the list is seen by itself to give a comparison of two numbers. Where it isn't, `gives` looks further.
-pub fn gives_at(t: &Typed, facts: &[Fact], place: usize, e: ExprId) -> bool
-    requires known { AreFacts t.now facts.now }
+pub fn gives_at(t: &Typed, facts: &Known, place: usize, e: ExprId) -> bool
+    requires known { IsKnown t.now facts.now }
     requires node { IsTrue (is_condition_at t.now e) }
-    ensures { IsTrue result → given (claims_in t.now facts.now) (node_cond t.now e) true ≡ true }
+    ensures { IsTrue result → given (claims_in t.now (told facts.now)) (node_cond t.now e) true ≡ true }
 {
     let expr = t.expr(e);
     match expr {
@@ -148,18 +150,18 @@ pub fn gives_at(t: &Typed, facts: &[Fact], place: usize, e: ExprId) -> bool
 // The same of a chain. One that joins conditions isn't looked at.
 fn chain_given_at(
     t: &Typed,
-    facts: &[Fact],
+    facts: &Known,
     place: usize,
     e: ExprId,
     op: Op,
     parts: &[ExprId],
 ) -> bool
-    requires known { AreFacts t.now facts.now }
+    requires known { IsKnown t.now facts.now }
     requires node { IsTrue (is_condition_at t.now e) }
     requires tree { tree_of t.now e ≡ chain_of (place_of_node t.now e.0) (signs_of_node t.now e.0) (type_of_node t.now e.0) (operator_kind op) (map (tree_of t.now) parts.now) }
     requires fits { IsTrue (chain_fits t.now (operator_kind op) parts.now (type_of_node t.now e.0)) }
     requires below { IsTrue (list_all (λ p. nat_lt p.0 e.0) parts.now) }
-    ensures { IsTrue result → given (claims_in t.now facts.now) (node_cond t.now e) true ≡ true }
+    ensures { IsTrue result → given (claims_in t.now (told facts.now)) (node_cond t.now e) true ≡ true }
 {
     if joins(op) {
         false
@@ -171,19 +173,19 @@ fn chain_given_at(
 // The same of a comparison. One of statuses isn't looked at.
 fn comparison_given_at(
     t: &Typed,
-    facts: &[Fact],
+    facts: &Known,
     place: usize,
     e: ExprId,
     op: Op,
     parts: &[ExprId],
 ) -> bool
-    requires known { AreFacts t.now facts.now }
+    requires known { IsKnown t.now facts.now }
     requires node { IsTrue (is_condition_at t.now e) }
     requires tree { tree_of t.now e ≡ chain_of (place_of_node t.now e.0) (signs_of_node t.now e.0) (type_of_node t.now e.0) (operator_kind op) (map (tree_of t.now) parts.now) }
     requires fits { IsTrue (chain_fits t.now (operator_kind op) parts.now (type_of_node t.now e.0)) }
     requires below { IsTrue (list_all (λ p. nat_lt p.0 e.0) parts.now) }
     requires compares { is_joining (operator_kind op) ≡ false }
-    ensures { IsTrue result → given (claims_in t.now facts.now) (node_cond t.now e) true ≡ true }
+    ensures { IsTrue result → given (claims_in t.now (told facts.now)) (node_cond t.now e) true ≡ true }
 {
     look_at(t, parts[0]);
     if is_number(t, parts[0]) {
@@ -193,25 +195,29 @@ fn comparison_given_at(
     }
 }
 
-fn numbers_given_at(t: &Typed, facts: &[Fact], place: usize, a: ExprId, op: Cmp, b: ExprId) -> bool
-    requires known { AreFacts t.now facts.now }
+fn numbers_given_at(t: &Typed, facts: &Known, place: usize, a: ExprId, op: Cmp, b: ExprId) -> bool
+    requires known { IsKnown t.now facts.now }
     requires left { IsTrue (is_number_at t.now a) }
     requires right { IsTrue (is_number_at t.now b) }
-    ensures { IsTrue result → sides_given (claims_in t.now facts.now) (single (node_number t.now a)) (order_of op) (single (node_number t.now b)) ≡ true }
+    ensures { IsTrue result → sides_given (claims_in t.now (told facts.now)) (single (node_number t.now a)) (order_of op) (single (node_number t.now b)) ≡ true }
 {
     first_rule_at(t, facts, place, Side::Expr(a), op, Side::Expr(b))
 }
 
-// Whether the condition itself stands among the facts, with this answer.
-fn stands(t: &Typed, facts: &[Fact], e: ExprId, answer: bool) -> bool
-    requires known { AreFacts t.now facts.now }
+// Whether the condition itself stands among the facts, with this answer. Conditions have the head of numbers.
+fn stands(t: &Typed, facts: &Known, e: ExprId, answer: bool) -> bool
+    requires known { IsKnown t.now facts.now }
     requires node { IsTrue (is_condition_at t.now e) }
-    ensures { result ≡ is_standing (claims_in t.now facts.now) (node_cond t.now e) answer }
+    ensures { result ≡ is_standing (claims_in t.now (told facts.now)) (node_cond t.now e) answer }
 {
-    for fact in facts {
-        if is_fact_of(t, *fact, e, answer) {
+    let set = facts.heads.at(0);
+    let n = facts.list.len();
+    let mut i = set.first_but(facts.gone, 0, n);
+    while i < n {
+        if is_fact_of(t, facts.list[i], e, answer) {
             return true;
         }
+        i = set.first_but(facts.gone, i + 1, n);
     }
     false
 }

@@ -23,20 +23,6 @@ pub(crate) fn are_other_variables(t: &Typed, a: ExprId, b: ExprId) -> bool
     have_other_heads(one, other)
 }
 
-/// The same of two numeric expressions of which each may be a constant: no constant is seen here to be another number than the first.
-pub(crate) fn are_two_variables(t: &Typed, a: ExprId, b: ExprId) -> bool
-    requires left { IsTrue (is_number_at t.now a) }
-    requires right { IsTrue (is_number_at t.now b) }
-    ensures { IsTrue result → same_num (num_in (tree_of t.now a)) (num_in (tree_of t.now b)) ≡ false }
-{
-    let one = t.expr(a);
-    let other = t.expr(b);
-    match t.constant(b) {
-        Some(_) => false,
-        None => have_other_heads(one, other),
-    }
-}
-
 #[tactic(auto, using(crate::proofs::HeadLemmas::other_variable))]
 fn have_other_heads(a: &Expr, b: &Expr) -> bool
     ensures { IsTrue result → (s u : Ty) → same_head s u a.now b.now ≡ false }

@@ -10,15 +10,17 @@ ghost use Rattle.wf_ast.specs.TypedInvariant.{chain_fits, has_kind, is_expr, is_
 ghost use Rattle.wf_ast.specs.NodeKinds.{is_number_at, gives_number, node_number, node_slice};
 ghost use Rattle.wf_ast.specs.OperatorForms.{is_arithmetic};
 ghost use Rattle.wf_base.specs.BaseTable.{bits_of, bytes_of, peek_width, row_of};
-ghost use Rattle.wf_facts_exprs.specs.Claims.{AreFacts, claims_in, is_side, side_in};
+ghost use Rattle.wf_facts_exprs.specs.Knowledge.{IsKnown, told};
+ghost use Rattle.wf_facts_exprs.specs.Claims.{claims_in, is_side, side_in};
 ghost use Rattle.wf_facts_exprs.specs.RangeOf.{first_rule as by_first_rule, is_ordered, length_range as range_of_length, side_range, type_range as range_of_type};
 ghost use Rattle.wf_facts_exprs.specs.Given.{second_rule as by_second_rule};
 ghost use Rattle.wf_facts_exprs.specs.Demands.{demand as wanted, unless_refused};
 ghost use Rattle.wf_facts_exprs.specs.Shapes.{is_measured};
 ghost use Rattle.wf_facts_exprs.specs.Operands.{arith_of, end_fits, ends_fit, ends_refusal, is_difference, is_operator, judged, judged_slice, one_more, part_number, rule_of_length, ruled, variable_range, width_demand};
 
-use crate::facts::{Cmp, Fact, Side};
+use crate::facts::{Cmp, Side};
 use crate::given::{Ranged, first_rule, gives_ranged};
+use crate::known::Known;
 use crate::meeting::meet_facts;
 use crate::operators::{demand, operand_demand, operator_range, subtracts};
 use crate::shapes::{Measured, Shape, expr_shape, look_at, shape_of};
@@ -29,10 +31,10 @@ use wf_text::{Place, Refusal, Rule};
 
 /// The range of a number whose demands are met, or the first demand that isn't.
 #[cycle(judging)]
-pub(crate) fn judge(t: &Typed, facts: &[Fact], e: ExprId) -> Result<Range, Refusal>
-    requires known { AreFacts t.now facts.now }
+pub(crate) fn judge(t: &Typed, facts: &Known, e: ExprId) -> Result<Range, Refusal>
+    requires known { IsKnown t.now facts.now }
     requires node { IsTrue (is_number_at t.now e) }
-    ensures answer { result ≡ judged (claims_in t.now facts.now) (node_number t.now e) }
+    ensures answer { result ≡ judged (claims_in t.now (told facts.now)) (node_number t.now e) }
     ensures small { IfOk result (λ r. IsSmall r) }
 {
     let r = judge_rule(t, facts, e)?;
@@ -123,10 +125,10 @@ fn first_place(at: Place, signs: &[Place], i: usize) -> Place
 
 // The range of an expression's rule where its demands are met, but for that of its own width.
 #[cycle(judging)]
-fn judge_rule(t: &Typed, facts: &[Fact], e: ExprId) -> Result<Range, Refusal>
-    requires known { AreFacts t.now facts.now }
+fn judge_rule(t: &Typed, facts: &Known, e: ExprId) -> Result<Range, Refusal>
+    requires known { IsKnown t.now facts.now }
     requires node { IsTrue (is_number_at t.now e) }
-    ensures answer { result ≡ ruled (claims_in t.now facts.now) (node_number t.now e) }
+    ensures answer { result ≡ ruled (claims_in t.now (told facts.now)) (node_number t.now e) }
     ensures small { is_operator (node_number t.now e) ≡ false → IfOk result (λ r. IsSmall r) }
 {
     let expr = t.expr(e);
@@ -166,19 +168,19 @@ fn type_range(t: &Typed, e: ExprId) -> Range
 #[cycle(judging)]
 fn judge_element(
     t: &Typed,
-    facts: &[Fact],
+    facts: &Known,
     e: ExprId,
     base: ExprId,
     at: ExprId,
 ) -> Result<Range, Refusal>
-    requires known { AreFacts t.now facts.now }
+    requires known { IsKnown t.now facts.now }
     requires node { IsTrue (is_number_at t.now e) }
     requires tree { tree_of t.now e ≡ numeric (element (place_of_node t.now e.0) (num_type (type_of_node t.now e.0)) (node_slice t.now base) (node_number t.now at)) }
     requires base { IsTrue (is_measured t.now Measured.Elements base) }
     requires at { IsTrue (is_number_at t.now at) }
     requires base_below { base.0 < e.0 }
     requires at_below { at.0 < e.0 }
-    ensures answer { result ≡ ruled (claims_in t.now facts.now) (node_number t.now e) }
+    ensures answer { result ≡ ruled (claims_in t.now (told facts.now)) (node_number t.now e) }
     ensures small { IfOk result (λ r. IsSmall r) }
 {
     judge_slice(t, facts, base)?;
@@ -198,11 +200,11 @@ fn judge_element(
 }
 
 // A length with its range.
-pub(crate) fn length_side(t: &Typed, facts: &[Fact], on: ExprId) -> Ranged
-    requires known { AreFacts t.now facts.now }
+pub(crate) fn length_side(t: &Typed, facts: &Known, on: ExprId) -> Ranged
+    requires known { IsKnown t.now facts.now }
     requires on { IsTrue (is_side t.now (Side.Length on)) }
     ensures side { result.side ≡ Side.Length on }
-    ensures range { result.range ≡ side_range (claims_in t.now facts.now) (side_in t.now (Side.Length on)) }
+    ensures range { result.range ≡ side_range (claims_in t.now (told facts.now)) (side_in t.now (Side.Length on)) }
     ensures small { IsSmall result.range }
     ensures kind { IsTrue (is_tree_of (type_of_node t.now on.0) (tree_of t.now on)) }
 {
@@ -261,17 +263,17 @@ fn variable_rule(t: &Typed, on: ExprId) -> Range
 #[cycle(judging)]
 fn judge_convert(
     t: &Typed,
-    facts: &[Fact],
+    facts: &Known,
     e: ExprId,
     of: ExprId,
     to: Width,
 ) -> Result<Range, Refusal>
-    requires known { AreFacts t.now facts.now }
+    requires known { IsKnown t.now facts.now }
     requires node { IsTrue (is_number_at t.now e) }
     requires tree { tree_of t.now e ≡ numeric (convert (place_of_node t.now e.0) (first_sign (place_of_node t.now e.0) (signs_of_node t.now e.0)) (bits_of to) (node_number t.now of)) }
     requires of { IsTrue (is_number_at t.now of) }
     requires below { of.0 < e.0 }
-    ensures answer { result ≡ ruled (claims_in t.now facts.now) (node_number t.now e) }
+    ensures answer { result ≡ ruled (claims_in t.now (told facts.now)) (node_number t.now e) }
     ensures small { IfOk result (λ r. IsSmall r) }
 {
     let range = judge(t, facts, of)?;
@@ -289,19 +291,19 @@ fn judge_convert(
 #[cycle(judging)]
 fn judge_answer(
     t: &Typed,
-    facts: &[Fact],
+    facts: &Known,
     e: ExprId,
     on: ExprId,
     sig: BaseSig,
 ) -> Result<Range, Refusal>
-    requires known { AreFacts t.now facts.now }
+    requires known { IsKnown t.now facts.now }
     requires node { IsTrue (is_number_at t.now e) }
     requires tree { tree_of t.now e ≡ answer_of (place_of_node t.now e.0) sig (tree_of t.now on) }
     requires kind { IsTrue (has_kind (row_of sig).on (type_of_node t.now on.0)) }
     requires number { IsTrue (gives_number sig) }
     requires on { IsTrue (is_expr t.now on) }
     requires below { on.0 < e.0 }
-    ensures answer { result ≡ ruled (claims_in t.now facts.now) (node_number t.now e) }
+    ensures answer { result ≡ ruled (claims_in t.now (told facts.now)) (node_number t.now e) }
     ensures small { IfOk result (λ r. IsSmall r) }
 {
     match sig {
@@ -320,13 +322,13 @@ fn judge_answer(
 }
 
 #[cycle(judging)]
-fn judge_length(t: &Typed, facts: &[Fact], e: ExprId, on: ExprId) -> Result<Range, Refusal>
-    requires known { AreFacts t.now facts.now }
+fn judge_length(t: &Typed, facts: &Known, e: ExprId, on: ExprId) -> Result<Range, Refusal>
+    requires known { IsKnown t.now facts.now }
     requires node { IsTrue (is_number_at t.now e) }
     requires tree { tree_of t.now e ≡ numeric (length_of (place_of_node t.now e.0) (node_slice t.now on)) }
     requires on { IsTrue (is_measured t.now Measured.Elements on) }
     requires below { on.0 < e.0 }
-    ensures answer { result ≡ ruled (claims_in t.now facts.now) (node_number t.now e) }
+    ensures answer { result ≡ ruled (claims_in t.now (told facts.now)) (node_number t.now e) }
     ensures small { IfOk result (λ r. IsSmall r) }
 {
     judge_slice(t, facts, on)?;
@@ -336,17 +338,17 @@ fn judge_length(t: &Typed, facts: &[Fact], e: ExprId, on: ExprId) -> Result<Rang
 // A peek needs its bytes.
 fn judge_peek(
     t: &Typed,
-    facts: &[Fact],
+    facts: &Known,
     e: ExprId,
     on: ExprId,
     form: PeekForm,
 ) -> Result<Range, Refusal>
-    requires known { AreFacts t.now facts.now }
+    requires known { IsKnown t.now facts.now }
     requires node { IsTrue (is_number_at t.now e) }
     requires tree { tree_of t.now e ≡ numeric (asked (place_of_node t.now e.0) (peek form) (io_in (tree_of t.now on))) }
     requires on { IsTrue (is_expr t.now on) }
     requires kind { type_of_node t.now on.0 ≡ Ty.Reader }
-    ensures answer { result ≡ ruled (claims_in t.now facts.now) (node_number t.now e) }
+    ensures answer { result ≡ ruled (claims_in t.now (told facts.now)) (node_number t.now e) }
     ensures small { IfOk result (λ r. IsSmall r) }
 {
     let n = bytes_in(form);
@@ -375,9 +377,9 @@ fn bytes_in(form: PeekForm) -> u64
 }
 
 // The range of a number.
-pub(crate) fn number_range(t: &Typed, facts: &[Fact], n: u64) -> Range
-    requires known { AreFacts t.now facts.now }
-    ensures range { result ≡ side_range (claims_in t.now facts.now) (side_in t.now (Side.Num n)) }
+pub(crate) fn number_range(t: &Typed, facts: &Known, n: u64) -> Range
+    requires known { IsKnown t.now facts.now }
+    ensures range { result ≡ side_range (claims_in t.now (told facts.now)) (side_in t.now (Side.Num n)) }
     ensures small { IsSmall result }
 {
     meet_facts(t, facts, Shape::Number(n as u128), Range::exactly(n))
@@ -385,10 +387,10 @@ pub(crate) fn number_range(t: &Typed, facts: &[Fact], n: u64) -> Range
 
 /// A slice whose demands are met, or the first demand that isn't.
 #[cycle(judging)]
-pub(crate) fn judge_slice(t: &Typed, facts: &[Fact], e: ExprId) -> Result<(), Refusal>
-    requires known { AreFacts t.now facts.now }
+pub(crate) fn judge_slice(t: &Typed, facts: &Known, e: ExprId) -> Result<(), Refusal>
+    requires known { IsKnown t.now facts.now }
     requires node { IsTrue (is_measured t.now Measured.Elements e) }
-    ensures answer { result ≡ judged_slice (claims_in t.now facts.now) (node_slice t.now e) }
+    ensures answer { result ≡ judged_slice (claims_in t.now (told facts.now)) (node_slice t.now e) }
 {
     let expr = t.expr(e);
     match t.constant(e) {
@@ -408,19 +410,19 @@ pub(crate) fn judge_slice(t: &Typed, facts: &[Fact], e: ExprId) -> Result<(), Re
 #[cycle(judging)]
 fn judge_cut(
     t: &Typed,
-    facts: &[Fact],
+    facts: &Known,
     e: ExprId,
     base: ExprId,
     from: Option<ExprId>,
     to: Option<ExprId>,
 ) -> Result<(), Refusal>
-    requires known { AreFacts t.now facts.now }
+    requires known { IsKnown t.now facts.now }
     requires node { IsTrue (is_measured t.now Measured.Elements e) }
     requires tree { node_slice t.now e ≡ cut (place_of_node t.now e.0) (node_slice t.now base) (end_in (tree_of t.now) from) (end_in (tree_of t.now) to) }
     requires base { IsTrue (is_measured t.now Measured.Elements base) }
     requires ends { IsTrue (ends_fit t.now e from to) }
     requires below { base.0 < e.0 }
-    ensures answer { result ≡ judged_slice (claims_in t.now facts.now) (node_slice t.now e) }
+    ensures answer { result ≡ judged_slice (claims_in t.now (told facts.now)) (node_slice t.now e) }
 {
     judge_slice(t, facts, base)?;
     match (from, to) {
@@ -434,12 +436,12 @@ fn judge_cut(
 // The ends of a slice, one of which is absent, and both.
 
 #[cycle(judging)]
-fn judge_from(t: &Typed, facts: &[Fact], e: ExprId, base: ExprId, i: ExprId) -> Result<(), Refusal>
-    requires known { AreFacts t.now facts.now }
+fn judge_from(t: &Typed, facts: &Known, e: ExprId, base: ExprId, i: ExprId) -> Result<(), Refusal>
+    requires known { IsKnown t.now facts.now }
     requires base { IsTrue (is_measured t.now Measured.Elements base) }
     requires end { IsTrue (end_fits t.now e i) }
     requires here { e.0 < length t.now.exprs }
-    ensures answer { result ≡ unless_refused (ends_refusal (claims_in t.now facts.now) (place_of_node t.now e.0) (node_slice t.now base) (present (node_number t.now i)) absent) tt }
+    ensures answer { result ≡ unless_refused (ends_refusal (claims_in t.now (told facts.now)) (place_of_node t.now e.0) (node_slice t.now base) (present (node_number t.now i)) absent) tt }
 {
     let range = judge(t, facts, i)?;
     let first = Ranged {
@@ -452,16 +454,16 @@ fn judge_from(t: &Typed, facts: &[Fact], e: ExprId, base: ExprId, i: ExprId) -> 
 // Whether an end is at most what it has to be.
 fn ordered_ends(
     t: &Typed,
-    facts: &[Fact],
+    facts: &Known,
     e: ExprId,
     first: Ranged,
     last: Ranged,
 ) -> Result<(), Refusal>
-    requires known { AreFacts t.now facts.now }
+    requires known { IsKnown t.now facts.now }
     requires first { IsTrue (is_side t.now first.side) }
     requires last { IsTrue (is_side t.now last.side) }
     requires here { e.0 < length t.now.exprs }
-    ensures answer { result ≡ unless_refused (wanted (by_first_rule (claims_in t.now facts.now) (side_in t.now first.side) at_most (side_in t.now last.side)
+    ensures answer { result ≡ unless_refused (wanted (by_first_rule (claims_in t.now (told facts.now)) (side_in t.now first.side) at_most (side_in t.now last.side)
         || by_second_rule at_most first.range last.range) Rule.B3 (place_of_node t.now e.0)) tt }
 {
     demand(
@@ -472,12 +474,12 @@ fn ordered_ends(
 }
 
 #[cycle(judging)]
-fn judge_up_to(t: &Typed, facts: &[Fact], e: ExprId, base: ExprId, j: ExprId) -> Result<(), Refusal>
-    requires known { AreFacts t.now facts.now }
+fn judge_up_to(t: &Typed, facts: &Known, e: ExprId, base: ExprId, j: ExprId) -> Result<(), Refusal>
+    requires known { IsKnown t.now facts.now }
     requires base { IsTrue (is_measured t.now Measured.Elements base) }
     requires end { IsTrue (end_fits t.now e j) }
     requires here { e.0 < length t.now.exprs }
-    ensures answer { result ≡ unless_refused (ends_refusal (claims_in t.now facts.now) (place_of_node t.now e.0) (node_slice t.now base) absent (present (node_number t.now j))) tt }
+    ensures answer { result ≡ unless_refused (ends_refusal (claims_in t.now (told facts.now)) (place_of_node t.now e.0) (node_slice t.now base) absent (present (node_number t.now j))) tt }
 {
     let range = judge(t, facts, j)?;
     let last = Ranged {
@@ -495,18 +497,18 @@ fn judge_up_to(t: &Typed, facts: &[Fact], e: ExprId, base: ExprId, j: ExprId) ->
 #[cycle(judging)]
 fn judge_between(
     t: &Typed,
-    facts: &[Fact],
+    facts: &Known,
     e: ExprId,
     base: ExprId,
     i: ExprId,
     j: ExprId,
 ) -> Result<(), Refusal>
-    requires known { AreFacts t.now facts.now }
+    requires known { IsKnown t.now facts.now }
     requires base { IsTrue (is_measured t.now Measured.Elements base) }
     requires first { IsTrue (end_fits t.now e i) }
     requires last { IsTrue (end_fits t.now e j) }
     requires here { e.0 < length t.now.exprs }
-    ensures answer { result ≡ unless_refused (ends_refusal (claims_in t.now facts.now) (place_of_node t.now e.0) (node_slice t.now base) (present (node_number t.now i)) (present (node_number t.now j))) tt }
+    ensures answer { result ≡ unless_refused (ends_refusal (claims_in t.now (told facts.now)) (place_of_node t.now e.0) (node_slice t.now base) (present (node_number t.now i)) (present (node_number t.now j))) tt }
 {
     let range = judge(t, facts, i)?;
     let first = Ranged {
@@ -536,19 +538,19 @@ struct Link {
 #[cycle(judging)]
 fn judge_chain(
     t: &Typed,
-    facts: &[Fact],
+    facts: &Known,
     e: ExprId,
     op: Op,
     parts: &[ExprId],
 ) -> Result<Range, Refusal>
-    requires known { AreFacts t.now facts.now }
+    requires known { IsKnown t.now facts.now }
     requires node { IsTrue (is_number_at t.now e) }
     requires tree { tree_of t.now e ≡ chain_of (place_of_node t.now e.0) (signs_of_node t.now e.0) (type_of_node t.now e.0) (operator_kind op) (map (tree_of t.now) parts.now) }
     requires fits { IsTrue (chain_fits t.now (operator_kind op) parts.now (type_of_node t.now e.0)) }
     requires below { IsTrue (list_all (λ p. nat_lt p.0 e.0) parts.now) }
     requires arithmetic { IsTrue (is_arithmetic (operator_kind op)) }
     requires numbers { IsTrue (list_all (is_number_at t.now) parts.now) }
-    ensures answer { result ≡ ruled (claims_in t.now facts.now) (node_number t.now e) }
+    ensures answer { result ≡ ruled (claims_in t.now (told facts.now)) (node_number t.now e) }
 {
     let mut r = judge(t, facts, parts[0])?;
     for i in 1..parts.len() {
@@ -558,8 +560,8 @@ fn judge_chain(
 }
 
 // The operator before an operand.
-fn link_at(t: &Typed, facts: &[Fact], e: ExprId, op: Op, parts: &[ExprId], i: usize) -> Link
-    requires known { AreFacts t.now facts.now }
+fn link_at(t: &Typed, facts: &Known, e: ExprId, op: Op, parts: &[ExprId], i: usize) -> Link
+    requires known { IsKnown t.now facts.now }
     requires node { IsTrue (is_number_at t.now e) }
     requires numbers { IsTrue (list_all (is_number_at t.now) parts.now) }
     requires place { 1 ≤ i }
@@ -568,7 +570,7 @@ fn link_at(t: &Typed, facts: &[Fact], e: ExprId, op: Op, parts: &[ExprId], i: us
     ensures bits { result.bits ≡ (num_type (type_of_node t.now e.0)).bits }
     ensures few { result.bits ≤ 64 }
     ensures sign { result.sign ≡ first_sign (place_of_node t.now e.0) (drop (i - 1) (signs_of_node t.now e.0)) }
-    ensures ordered { result.ordered ≡ (is_difference (arith_of op) && is_ordered (claims_in t.now facts.now) (nat_lt 1 i) (part_number t.now parts.now 0) (part_number t.now parts.now i)) }
+    ensures ordered { result.ordered ≡ (is_difference (arith_of op) && is_ordered (claims_in t.now (told facts.now)) (nat_lt 1 i) (part_number t.now parts.now 0) (part_number t.now parts.now i)) }
     ensures last { result.last ≡ nat_eq (i + 1) (length parts.now) }
 {
     Link {
@@ -581,12 +583,12 @@ fn link_at(t: &Typed, facts: &[Fact], e: ExprId, op: Op, parts: &[ExprId], i: us
 }
 
 // Whether the facts give that the second operand is at most the first; a later operand is joined to a part.
-fn is_ordered_by_facts(t: &Typed, facts: &[Fact], parts: &[ExprId], i: usize) -> bool
-    requires known { AreFacts t.now facts.now }
+fn is_ordered_by_facts(t: &Typed, facts: &Known, parts: &[ExprId], i: usize) -> bool
+    requires known { IsKnown t.now facts.now }
     requires numbers { IsTrue (list_all (is_number_at t.now) parts.now) }
     requires place { 1 ≤ i }
     requires within { i < length parts.now }
-    ensures { result ≡ is_ordered (claims_in t.now facts.now) (nat_lt 1 i) (part_number t.now parts.now 0) (part_number t.now parts.now i) }
+    ensures { result ≡ is_ordered (claims_in t.now (told facts.now)) (nat_lt 1 i) (part_number t.now parts.now 0) (part_number t.now parts.now i) }
 {
     if 1 < i {
         false
@@ -605,17 +607,17 @@ fn is_ordered_by_facts(t: &Typed, facts: &[Fact], parts: &[ExprId], i: usize) ->
 #[cycle(judging)]
 fn judge_next(
     t: &Typed,
-    facts: &[Fact],
+    facts: &Known,
     link: Link,
     part: ExprId,
     r: Range,
 ) -> Result<Range, Refusal>
-    requires known { AreFacts t.now facts.now }
+    requires known { IsKnown t.now facts.now }
     requires part { IsTrue (is_number_at t.now part) }
     requires arithmetic { IsTrue (is_arithmetic (operator_kind link.op)) }
     requires width { link.bits ≤ 64 }
     requires left { IsSmall r }
-    ensures answer { result ≡ one_more (claims_in t.now facts.now) (arith_of link.op) link.bits link.sign link.ordered link.last r (node_number t.now part) }
+    ensures answer { result ≡ one_more (claims_in t.now (told facts.now)) (arith_of link.op) link.bits link.sign link.ordered link.last r (node_number t.now part) }
     ensures small { link.last ≡ false → IfOk result (λ r. IsSmall r) }
 {
     let operand = judge(t, facts, part)?;

@@ -7,14 +7,15 @@ ghost use Rattle.wf_ast.specs.declared.typed_nodes.TypedNodes.{TypedNodes};
 ghost use Rattle.wf_ast.specs.TypedTree.{NumTree};
 ghost use Rattle.wf_ast.specs.Same.{same_num};
 ghost use Rattle.wf_ast.specs.NodeKinds.{is_number_at};
-ghost use Rattle.wf_facts_exprs.specs.Claims.{AreFacts, claim_in, claims_in, is_fact, is_side, order_of, side_in, tree_of_side};
+ghost use Rattle.wf_facts_exprs.specs.Knowledge.{IsKnown, told};
+ghost use Rattle.wf_facts_exprs.specs.Claims.{claim_in, claims_in, is_fact, is_side, order_of, side_in, tree_of_side};
 ghost use Rattle.wf_facts_exprs.specs.RangeOf.{non_empty as some_numbers, below as range_below, from_on as range_from_on, met, met_by, number_of_side, passed, up_to as range_up_to};
 ghost use Rattle.wf_facts_exprs.specs.Operands.{pass_of};
 ghost use Rattle.wf_facts_exprs.specs.Shapes.{shape_fits, shape_tree};
 
 use crate::facts::{Cmp, Fact, Side};
-use crate::heads::are_other_variables;
-use crate::shapes::{Shape, has_number, has_shape, same_shapes, shape_of};
+use crate::known::{Known, shape_head};
+use crate::shapes::{Shape, has_shape, same_shapes, shape_of};
 use wf_ast::{ExprId, Typed};
 use wf_num::Range;
 
@@ -27,10 +28,10 @@ pub(crate) enum Pass {
 
 /// A range met with all facts about a tree.
 #[tactic(auto, unfolding(crate::specs::RangeOf::met))]
-pub(crate) fn meet_facts(t: &Typed, facts: &[Fact], shape: Shape, r: Range) -> Range
-    requires known { AreFacts t.now facts.now }
+pub(crate) fn meet_facts(t: &Typed, facts: &Known, shape: Shape, r: Range) -> Range
+    requires known { IsKnown t.now facts.now }
     requires shape { IsTrue (shape_fits t.now shape) }
-    ensures met { result ≡ met (claims_in t.now facts.now) (shape_tree t.now shape) r }
+    ensures met { result ≡ met (claims_in t.now (told facts.now)) (shape_tree t.now shape) r }
     ensures small { IsSmall r → IsSmall result }
 {
     let narrow = meet_by(t, facts, Pass::Narrow, shape, r);
@@ -47,22 +48,24 @@ struct Met {
     thins: bool,
 }
 
-// The facts of one pass, in order.
-fn meet_by(t: &Typed, facts: &[Fact], pass: Pass, shape: Shape, r: Range) -> Met
-    requires known { AreFacts t.now facts.now }
+// The facts of one pass, in order. Those about the tree have its head.
+fn meet_by(t: &Typed, facts: &Known, pass: Pass, shape: Shape, r: Range) -> Met
+    requires known { IsKnown t.now facts.now }
     requires shape { IsTrue (shape_fits t.now shape) }
-    ensures met { result.range ≡ passed (pass_of pass) (claims_in t.now facts.now) (shape_tree t.now shape) r }
+    ensures met { result.range ≡ passed (pass_of pass) (claims_in t.now (told facts.now)) (shape_tree t.now shape) r }
     ensures small { IsSmall r → IsSmall result.range }
-    ensures thin { result.thins ≡ false → (q : Range) → q ≡ passed (pass_of Pass.Thin) (claims_in t.now facts.now) (shape_tree t.now shape) q }
+    ensures thin { result.thins ≡ false → (q : Range) → q ≡ passed (pass_of Pass.Thin) (claims_in t.now (told facts.now)) (shape_tree t.now shape) q }
 {
+    let set = facts.heads.at(shape_head(t, shape));
+    let n = facts.list.len();
     let mut met = r;
     let mut thins = false;
-    for fact in facts {
-        thins |= is_thinning(*fact);
-        if is_passed_over(t, *fact, pass, shape) {
-            continue;
-        }
-        met = meet_fact(t, *fact, pass, shape, met);
+    let mut i = set.first_but(facts.gone, 0, n);
+    while i < n {
+        let fact = facts.list[i];
+        thins |= is_thinning(fact);
+        met = meet_fact(t, fact, pass, shape, met);
+        i = set.first_but(facts.gone, i + 1, n);
     }
     Met { range: met, thins }
 }
@@ -75,44 +78,6 @@ fn is_thinning(fact: Fact) -> bool
     match fact {
         Fact::Compare { op, .. } => !passes_over(Pass::Thin, op),
         Fact::Cond { .. } => false,
-    }
-}
-
-// Whether a fact is seen at once to leave every range as it is in a pass.
-#[tactic(auto, using(crate::proofs::PassLemmas::met_with_passed, crate::proofs::HeadLemmas::met_with_other))]
-fn is_passed_over(t: &Typed, fact: Fact, pass: Pass, shape: Shape) -> bool
-    requires known { IsTrue (is_fact t.now fact) }
-    requires shape { IsTrue (shape_fits t.now shape) }
-    ensures { IsTrue result → (r : Range) → r ≡ met_by (pass_of pass) (claim_in t.now fact) (shape_tree t.now shape) r }
-{
-    match fact {
-        Fact::Compare { left, op, .. } => {
-            if passes_over(pass, op) {
-                return true;
-            }
-            is_other_side(t, left, shape)
-        }
-        Fact::Cond { .. } => true,
-    }
-}
-
-/// Whether a side is seen at once to be another number or variable than the one that a shape tells.
-#[tactic(auto, using(crate::proofs::HeadLemmas::not_so))]
-pub(crate) fn is_other_side(t: &Typed, side: Side, shape: Shape) -> bool
-    requires side { IsTrue (is_side t.now side) }
-    requires shape { IsTrue (shape_fits t.now shape) }
-    ensures { IsTrue result → same_num (tree_of_side (side_in t.now side)) (shape_tree t.now shape) ≡ false }
-{
-    match side {
-        Side::Expr(e) => match shape {
-            Shape::Other(other) => are_other_variables(t, e, other),
-            Shape::Number(n) => !has_number(t, e, n),
-            Shape::Length(_, _) => false,
-            Shape::Sum(_, _) => false,
-        },
-        Side::Sum(_, _) => false,
-        Side::Length(_) => false,
-        Side::Num(_) => false,
     }
 }
 

@@ -4,7 +4,6 @@ ghost use Rattle.std.specs.Prelude.{◌≡◌, false, IsTrue};
 ghost use Rattle.wf_facts_exprs.specs.Claims.{is_side, side_in, same_side as same_trees};
 
 use crate::facts::Side;
-use crate::heads::are_two_variables;
 use crate::shapes::{has_number, same_numbers, same_shapes, shape_of};
 use wf_ast::Typed;
 
@@ -21,19 +20,6 @@ pub fn same_side(t: &Typed, a: Side, b: Side) -> bool
         (Side::Expr(e), Side::Expr(f)) => same_numbers(t, e, f),
         (Side::Expr(e), Side::Num(n)) => has_number(t, e, n as u128),
         _ => are_shaped_alike(t, a, b),
-    }
-}
-
-/// Whether two sides of comparisons are seen at once to be two variables, or a variable and a chain. Those that need a longer look are
-/// told apart by `same_side`.
-pub fn are_other_sides(t: &Typed, a: Side, b: Side) -> bool
-    requires left { IsTrue (is_side t.now a) }
-    requires right { IsTrue (is_side t.now b) }
-    ensures { IsTrue result → same_trees (side_in t.now a) (side_in t.now b) ≡ false }
-{
-    match (a, b) {
-        (Side::Expr(e), Side::Expr(f)) => are_two_variables(t, e, f),
-        _ => false,
     }
 }
 

@@ -2,7 +2,8 @@
 
 ghost use Rattle.std.specs.Prelude.{◌≡◌, true, IsTrue};
 ghost use Rattle.wf_ast.specs.NodeKinds.{is_condition_at, node_cond};
-ghost use Rattle.wf_facts_exprs.specs.Claims.{AreFacts, claims_in};
+ghost use Rattle.wf_facts_exprs.specs.Knowledge.{IsKnown, told};
+ghost use Rattle.wf_facts_exprs.specs.Claims.{claims_in};
 ghost use Rattle.wf_facts_exprs.specs.Demands.{unless_refused};
 ghost use Rattle.wf_facts_exprs.specs.Given.{gives as given};
 ghost use Rattle.wf_facts.specs.IndexedFacts.{IsOver};
@@ -15,13 +16,13 @@ use crate::moments::Moment;
 use std::alloc::Global;
 use wf_ast::{Clause, ExprId, StmtId, Typed};
 use wf_facts::Facts;
-use wf_facts_exprs::{Fact, check_value, gives, gives_at};
+use wf_facts_exprs::{Known, check_value, gives, gives_at};
 use wf_text::{PhaseFault, Place, Refusal, Rule};
 
 /// Where a loop is entered under these facts: each `pre` and each `inv` in written order has a value, and is given. Err
 /// tells the first that doesn't: a value's own rule and place, or B10 for a `pre` and B11 for an `inv`, at the `while`.
 pub fn enter(facts: &Facts, t: &Typed, w: StmtId) -> Result<(), Refusal>
-    requires known { AreFacts t.now facts.now.list }
+    requires known { IsOver t.now facts.now }
     requires is_loop { is_loop t.now w ≡ true }
     ensures { result ≡ unless_refused (entry_refusal (claims_in t.now facts.now.list) (place_at t.now w) (head_at t.now w)) tt }
 {
@@ -31,7 +32,7 @@ pub fn enter(facts: &Facts, t: &Typed, w: StmtId) -> Result<(), Refusal>
 /// On a way back to a loop's head under these facts: what its entry asks. `at` is the place of the `continue`, or of the
 /// body's closing brace.
 pub fn way_back(facts: &Facts, t: &Typed, w: StmtId, at: Place) -> Result<(), Refusal>
-    requires known { AreFacts t.now facts.now.list }
+    requires known { IsOver t.now facts.now }
     requires is_loop { is_loop t.now w ≡ true }
     ensures { result ≡ unless_refused (way_back_refusal (claims_in t.now facts.now.list) at (head_at t.now w)) tt }
 {
@@ -41,7 +42,7 @@ pub fn way_back(facts: &Facts, t: &Typed, w: StmtId, at: Place) -> Result<(), Re
 /// At a `break` under these facts: each `inv` and each `post` in written order has a value, and is given. Err tells the
 /// first that doesn't: a value's own rule and place, or B11 for an `inv` and B12 for a `post`, at the place of the `break`.
 pub fn at_break(facts: &Facts, t: &Typed, w: StmtId, at: Place) -> Result<(), Refusal>
-    requires known { AreFacts t.now facts.now.list }
+    requires known { IsOver t.now facts.now }
     requires is_loop { is_loop t.now w ≡ true }
     ensures { result ≡ unless_refused (break_refusal (claims_in t.now facts.now.list) at (head_at t.now w)) tt }
 {
@@ -69,26 +70,26 @@ pub fn at_exit(alloc: Global, head: &Facts, t: &Typed, w: StmtId) -> Result<(), 
 
 // The promises of a loop at a moment, under these facts.
 fn ask(facts: &Facts, t: &Typed, w: StmtId, moment: Moment, at: Place) -> Result<(), Refusal>
-    requires known { AreFacts t.now facts.now.list }
+    requires known { IsOver t.now facts.now }
     requires is_loop { is_loop t.now w ≡ true }
     ensures { result ≡ unless_refused (promises_refusal moment (claims_in t.now facts.now.list) at (head_at t.now w).clauses) tt }
 {
     let head = head_of(t, w);
-    require_promises(t, facts.as_slice(), head.clauses.as_slice(), moment, at)
+    require_promises(t, &facts.as_known(t), head.clauses.as_slice(), moment, at)
 }
 
 // The promises of a moment, in order. Most stand among the facts in the order in which the loop's head has them, so each is looked
 // for first behind where the one before it stood.
 fn require_promises(
     t: &Typed,
-    facts: &[Fact],
+    facts: &Known,
     clauses: &[(Clause, ExprId)],
     moment: Moment,
     at: Place,
 ) -> Result<(), Refusal>
-    requires known { AreFacts t.now facts.now }
+    requires known { IsKnown t.now facts.now }
     requires conditions { are_conditions t.now clauses.now ≡ true }
-    ensures { result ≡ unless_refused (promises_refusal moment (claims_in t.now facts.now) at (promises_in t.now clauses.now)) tt }
+    ensures { result ≡ unless_refused (promises_refusal moment (claims_in t.now (told facts.now)) at (promises_in t.now clauses.now)) tt }
 {
     let mut next = 0;
     for i in 0..clauses.len() {
@@ -126,16 +127,16 @@ fn rule_of(clause: Clause) -> Rule
 // A condition has a value under these facts, and is given: `stands` where that is known.
 fn require(
     t: &Typed,
-    facts: &[Fact],
+    facts: &Known,
     e: ExprId,
     stands: bool,
     rule: Rule,
     at: Place,
 ) -> Result<(), Refusal>
-    requires known { AreFacts t.now facts.now }
+    requires known { IsKnown t.now facts.now }
     requires condition { is_condition_at t.now e ≡ true }
-    requires stands { IsTrue stands → given (claims_in t.now facts.now) (node_cond t.now e) true ≡ true }
-    ensures { result ≡ unless_refused (required (claims_in t.now facts.now) rule at (node_cond t.now e)) tt }
+    requires stands { IsTrue stands → given (claims_in t.now (told facts.now)) (node_cond t.now e) true ≡ true }
+    ensures { result ≡ unless_refused (required (claims_in t.now (told facts.now)) rule at (node_cond t.now e)) tt }
 {
     let _node = t.expr(e);
     check_value(t, facts, e)?;

@@ -82,7 +82,6 @@ pub fn add(facts: &mut Facts, t: &Typed, e: ExprId, answer: bool, at: Place) -> 
     ensures claims { OnOk result (claims_in t.now facts.new.list ≡ with_condition (claims_in t.now facts.old.list) (node_cond t.now e) answer) }
 {
     let added = facts.add_condition(t, e, answer);
-    // At most 512 stand.
-    let _few = facts.len();
+    facts.keeps_limit();
     added.map_err(|_| Refusal { rule: Rule::L8, at })
 }

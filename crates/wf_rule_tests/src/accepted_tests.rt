@@ -49,8 +49,8 @@ fn the_digit_is_known(alloc: Global) -> Result<bool, PhaseFault> {
             let of_this = facts.about(parser.typed(), Thing::This);
             Ok(
                 are_of_the_digit(&facts)
-                    && of_c == Some(&[7, 0, 0, 0, 0, 0, 0, 0])
-                    && of_this == Some(&[0; 8]),
+                    && of_c == Some([7, 0, 0, 0, 0, 0, 0, 0])
+                    && of_this == Some([0; 8]),
             )
         }
         None => Ok(false),

@@ -1,4 +1,5 @@
 use Rattle.std.proofs.Common.{refl, sym, ◌∙◌}
+use Rattle.wf_facts_exprs.specs.Knowledge.{told}
 use Rattle.wf_ast.specs.TypedTrees.{text_of}
 use Rattle.wf_ast.specs.NodeKinds.{node_cond}
 use Rattle.wf_facts_exprs.specs.Claims.{claims_in}
@@ -11,7 +12,7 @@ use Rattle.wf_bounds_stmts.proofs.asserting.check_by_axiom.Goals as goal
 pub returns : goal.returns
 returns c =
     let t = c.args.t.now in
-    let fs = claims_in t c.args.facts.now in
+    let fs = claims_in t (told c.args.facts.now) in
     let given = given_trees t c.args.by.now.given in
     let last = axiom_refusal fs c.args.by.now.at (node_cond t c.args.goal) given (axiom_named (text_of t c.args.by.now.name)) in
     third-of (cond_refusal fs (node_cond t c.args.goal)) (given_refusal fs given) last last c.check_axiom.result c.check_axiom.ensures refl (sym c.check_condition.ensures ∙ c.in_ok-check_condition.was)

@@ -1,5 +1,6 @@
 use Rattle.std.proofs.Common.{◌≡◌, length, take, map, ap, sym, ◌∙◌, arith, rules}
 use Rattle.std.proofs.lemmas.Result.{err_from_is_err_and}
+use Rattle.wf_facts_exprs.specs.Knowledge.{told}
 use Rattle.wf_facts_exprs.specs.Claims.{claims_in}
 use Rattle.wf_facts_exprs.specs.Demands.{unless_refused}
 use Rattle.wf_axioms.specs.Items.{claim_of_item, claims_of_items, IsFine}
@@ -13,17 +14,17 @@ loop-i-init c =
     let t = c.args.t.now in
     let offsets = c.premise_offsets-offsets.result in
     let same = ap (λ n. take n offsets) c.requires.count ∙ c.premise_offsets-offsets.ensures in
-    ap (λ os. premises_refusal (claims_in t c.args.facts.now) (map (inside_text c.args.text_at) os) (claims_of_items t c.args.p)) same
+    ap (λ os. premises_refusal (claims_in t (told c.args.facts.now)) (map (inside_text c.args.text_at) os) (claims_of_items t c.args.p)) same
 
 pub check_premise-requires-clause-fine : goal.check_premise-requires-clause-fine
 check_premise-requires-clause-fine c =
     let t = c.args.t.now in
     let three : length c.args.p.items ≡ 3 = search rules in
-    holds-of (λ i. IsFine (claims_in t c.args.facts.now) (claim_of_item t i)) c.args.p.items c.args.p.count c.loop-i.i _ (omega (arith, c.loop-i-test.true)) (omega (arith, three, c.requires.few, c.loop-i-test.true)) c.requires.fine
+    holds-of (λ i. IsFine (claims_in t (told c.args.facts.now)) (claim_of_item t i)) c.args.p.items c.args.p.count c.loop-i.i _ (omega (arith, c.loop-i-test.true)) (omega (arith, three, c.requires.few, c.loop-i-test.true)) c.requires.fine
 
 pub loop-i-preserved : goal.loop-i-preserved
 loop-i-preserved c =
-    let fs = claims_in c.args.t.now c.args.facts.now in
+    let fs = claims_in c.args.t.now (told c.args.facts.now) in
     let offsets = c.premise_offsets-offsets.result in
     let three : length c.args.p.items ≡ 3 = search rules in
     let also : length offsets ≡ 3 = search rules in
@@ -34,7 +35,7 @@ loop-i-preserved c =
 pub returns-in_err-check_premise : goal.returns-in_err-check_premise
 returns-in_err-check_premise c =
     let r = err_from_is_err_and c.from_residual.result c.from_residual.ensures.1 in
-    let fs = claims_in c.args.t.now c.args.facts.now in
+    let fs = claims_in c.args.t.now (told c.args.facts.now) in
     let offsets = c.premise_offsets-offsets.result in
     let three : length c.args.p.items ≡ 3 = search rules in
     let also : length offsets ≡ 3 = search rules in
@@ -45,5 +46,5 @@ returns-in_err-check_premise c =
 pub returns : goal.returns
 returns c =
     let t = c.args.t.now in
-    let done = premises-done t (claims_in t c.args.facts.now) c.args.text_at c.premise_offsets-offsets.result c.args.p.items c.args.p.count c.loop-i.i (omega (arith, c.loop-i-test.false)) in
+    let done = premises-done t (claims_in t (told c.args.facts.now)) c.args.text_at c.premise_offsets-offsets.result c.args.p.items c.args.p.count c.loop-i.i (omega (arith, c.loop-i-test.false)) in
     ap (λ r. unless_refused r (tt {0})) (sym done ∙ c.loop-i.invariant)

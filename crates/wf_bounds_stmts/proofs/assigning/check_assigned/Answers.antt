@@ -1,4 +1,5 @@
 use Rattle.std.proofs.Common.{ap, sym, ◌∙◌}
+use Rattle.wf_facts_exprs.specs.Knowledge.{told}
 use Rattle.wf_text.specs.declared.rules.Rule.TheVariants.{B1}
 use Rattle.wf_ast.specs.TypedTrees.{target_of, tree_of}
 use Rattle.wf_facts_exprs.specs.Claims.{claims_in}
@@ -11,7 +12,7 @@ use Rattle.wf_bounds_stmts.proofs.assigning.check_assigned.Goals as goal
 
 pub returns : goal.returns
 returns c =
-    let fs = claims_in c.args.t.now c.args.facts.now in
+    let fs = claims_in c.args.t.now (told c.args.facts.now) in
     let v = tree_of c.args.t.now c.args.value in
     let target = target_of (tree_of c.args.t.now c.args.target) in
     let p = was-checked (value_refusal fs v) (range_in fs v) c.in_ok-range.range (sym c.checked.ensures ∙ c.in_ok-range.was) in

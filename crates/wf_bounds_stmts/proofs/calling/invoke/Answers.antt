@@ -18,7 +18,7 @@ returns-in_err-check_answer-clause-settles c =
     let vs = map (tree_of c.args.t.now) call.args.now in
     let p = all_handed B8 (known_to_call call.keep c.args.mark fs) (handed_to (map (λ x. x.ty) c.args.taken.now) vs) in
     let q = answer_refusal (left_by_call call.keep c.args.mark vs fs) call.at (optional_target (tree_of c.args.t.now) call.target) (number_type c.args.answers) in
-    let fine : p ≡ None = is-fine p (rw (c.as_slice.ensures, c.enter_call.ensures.claims) at (sym c.check_arguments.ensures ∙ c.in_ok-check_arguments.was)) in
+    let fine : p ≡ None = is-fine p (rw (c.as_known.ensures.list, c.enter_call.ensures.claims) at (sym c.check_arguments.ensures ∙ c.in_ok-check_arguments.was)) in
     let found : q ≡ Some c.in_err-check_answer.field-0.0 =
-    is-refused q c.in_err-check_answer.field-0.0 (rw (c.as_slice-2.ensures, c.leave_call.ensures.claims, c.enter_call.ensures.claims) at (sym c.check_answer.ensures ∙ c.in_err-check_answer.was)) in
+    is-refused q c.in_err-check_answer.field-0.0 (rw (c.as_known-2.ensures.list, c.leave_call.ensures.claims, c.enter_call.ensures.claims) at (sym c.check_answer.ensures ∙ c.in_err-check_answer.was)) in
     rw (r.1, r.2) (ap (λ r. or_else r q) fine ∙ found)

@@ -28,7 +28,7 @@ returns-in_err-check_answer-clause-settles c =
     let q = answer_refusal (without things.Element fs) c.args.at (optional_target (tree_of c.args.t.now) c.args.target) (all_of W64) in
     let fine : or_else p a ≡ None =
     ap (λ it. or_else (value_refusal fs it) a) (sym c.requires.on) ∙ ap (λ it. or_else (value_refusal fs w) (all_handed B8 fs ((None, it) ∷ []))) (sym c.requires.source)
-    ∙ is-fine (or_else (value_refusal fs w) (all_handed B8 fs ((None, v) ∷ []))) (rw c.as_slice.ensures at (sym c.check_copied.ensures ∙ c.in_ok-check_copied.was)) in
+    ∙ is-fine (or_else (value_refusal fs w) (all_handed B8 fs ((None, v) ∷ []))) (rw c.as_known.ensures.list at (sym c.check_copied.ensures ∙ c.in_ok-check_copied.was)) in
     let found : q ≡ Some c.in_err-check_answer.field-0.0 =
-    is-refused q c.in_err-check_answer.field-0.0 (rw (c.as_slice-2.ensures, c.drop_mentions.ensures.claims) at (sym c.check_answer.ensures ∙ c.in_err-check_answer.was)) in
+    is-refused q c.in_err-check_answer.field-0.0 (rw (c.as_known-2.ensures.list, c.drop_mentions.ensures.claims) at (sym c.check_answer.ensures ∙ c.in_err-check_answer.was)) in
     rw (r.1, r.2) (or-again p a q ∙ ap (λ r. or_else r q) fine ∙ found)

@@ -23,7 +23,7 @@ returns-in_err-check_answer-clause-settles c =
     let p = all_handed B8 fs ((None, elements (node_slice c.args.t.now c.args.source)) ∷ []) in
     let q = answer_refusal (without (things.Arg c.args.io) fs) c.args.at (optional_target (tree_of c.args.t.now) c.args.target) (all_of W64) in
     let fine : p ≡ None =
-    ap (λ it. all_handed B8 fs ((None, it) ∷ [])) (sym c.requires.source) ∙ is-fine (all_handed B8 fs ((None, v) ∷ [])) (rw c.as_slice.ensures at (sym c.check_one.ensures ∙ c.in_ok-check_one.was)) in
+    ap (λ it. all_handed B8 fs ((None, it) ∷ [])) (sym c.requires.source) ∙ is-fine (all_handed B8 fs ((None, v) ∷ [])) (rw c.as_known.ensures.list at (sym c.check_one.ensures ∙ c.in_ok-check_one.was)) in
     let found : q ≡ Some c.in_err-check_answer.field-0.0 =
-    is-refused q c.in_err-check_answer.field-0.0 (rw (c.as_slice-2.ensures, c.drop_mentions.ensures.claims) at (sym c.check_answer.ensures ∙ c.in_err-check_answer.was)) in
+    is-refused q c.in_err-check_answer.field-0.0 (rw (c.as_known-2.ensures.list, c.drop_mentions.ensures.claims) at (sym c.check_answer.ensures ∙ c.in_err-check_answer.was)) in
     rw (r.1, r.2) (ap (λ r. or_else r q) fine ∙ found)

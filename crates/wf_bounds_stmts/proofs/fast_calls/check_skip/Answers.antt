@@ -1,5 +1,6 @@
 use Rattle.std.proofs.Common.{◌≡◌, [], ◌∷◌, None, ap, sym, ◌∙◌}
 use Rattle.std.proofs.lemmas.Result.{err_from_is_err_and}
+use Rattle.wf_facts_exprs.specs.Knowledge.{told}
 use Rattle.wf_text.specs.declared.rules.Rule.TheVariants.{B8, B9}
 use Rattle.wf_base.specs.declared.widths.Width.TheVariants.{W32}
 use Rattle.wf_ast.specs.TypedTree.{asked, at_most, at_least, reader_length, numeric, skip_fast}
@@ -18,7 +19,7 @@ pub returns-in_err-check_two : goal.returns-in_err-check_two
 returns-in_err-check_two c =
     let r = err_from_is_err_and c.from_residual.result c.from_residual.ensures.1 in
     let t = c.args.t.now in
-    let fs = claims_in t c.args.facts.now in
+    let fs = claims_in t (told c.args.facts.now) in
     let a = numeric_by t c.args.skip.actual c.look_at-2.ensures c.requires.actual in
     let w = numeric_by t c.args.skip.worst_case c.look_at-3.ensures c.requires.worst_case in
     let call = skip_fast (io_in (tree_of t c.args.skip.on)) (node_number t c.args.skip.actual) (node_number t c.args.skip.worst_case) in
@@ -29,7 +30,7 @@ pub returns-in_err-check_given : goal.returns-in_err-check_given
 returns-in_err-check_given c =
     let r = err_from_is_err_and c.from_residual-in_err-check_given.result c.from_residual-in_err-check_given.ensures.1 in
     let t = c.args.t.now in
-    let fs = claims_in t c.args.facts.now in
+    let fs = claims_in t (told c.args.facts.now) in
     let a = numeric_by t c.args.skip.actual c.look_at-2.ensures c.requires.actual in
     let w = numeric_by t c.args.skip.worst_case c.look_at-3.ensures c.requires.worst_case in
     let x = node_number t c.args.skip.actual in
@@ -44,7 +45,7 @@ returns-in_err-check_given c =
 pub returns : goal.returns
 returns c =
     let t = c.args.t.now in
-    let fs = claims_in t c.args.facts.now in
+    let fs = claims_in t (told c.args.facts.now) in
     let a = numeric_by t c.args.skip.actual c.look_at-2.ensures c.requires.actual in
     let w = numeric_by t c.args.skip.worst_case c.look_at-3.ensures c.requires.worst_case in
     let x = node_number t c.args.skip.actual in
@@ -61,7 +62,7 @@ returns c =
 pub check_given-requires-clause-left_fine : goal.check_given-requires-clause-left_fine
 check_given-requires-clause-left_fine c =
     let t = c.args.t.now in
-    let fs = claims_in t c.args.facts.now in
+    let fs = claims_in t (told c.args.facts.now) in
     let a = numeric_by t c.args.skip.actual c.look_at-2.ensures c.requires.actual in
     let w = numeric_by t c.args.skip.worst_case c.look_at-3.ensures c.requires.worst_case in
     let p = all_handed B8 fs ((all_of W32, numeric (node_number t c.args.skip.actual)) ∷ (all_of W32, numeric (node_number t c.args.skip.worst_case)) ∷ []) in
@@ -71,7 +72,7 @@ check_given-requires-clause-left_fine c =
 pub check_given-requires-clause-right_fine : goal.check_given-requires-clause-right_fine
 check_given-requires-clause-right_fine c =
     let t = c.args.t.now in
-    let fs = claims_in t c.args.facts.now in
+    let fs = claims_in t (told c.args.facts.now) in
     let a = numeric_by t c.args.skip.actual c.look_at-2.ensures c.requires.actual in
     let w = numeric_by t c.args.skip.worst_case c.look_at-3.ensures c.requires.worst_case in
     let p = all_handed B8 fs ((all_of W32, numeric (node_number t c.args.skip.actual)) ∷ (all_of W32, numeric (node_number t c.args.skip.worst_case)) ∷ []) in
@@ -81,7 +82,7 @@ check_given-requires-clause-right_fine c =
 pub check_given-requires-2-clause-right_fine : goal.check_given-requires-2-clause-right_fine
 check_given-requires-2-clause-right_fine c =
     let t = c.args.t.now in
-    let fs = claims_in t c.args.facts.now in
+    let fs = claims_in t (told c.args.facts.now) in
     let a = numeric_by t c.args.skip.actual c.look_at-2.ensures c.requires.actual in
     let w = numeric_by t c.args.skip.worst_case c.look_at-3.ensures c.requires.worst_case in
     let p = all_handed B8 fs ((all_of W32, numeric (node_number t c.args.skip.actual)) ∷ (all_of W32, numeric (node_number t c.args.skip.worst_case)) ∷ []) in

@@ -1,5 +1,6 @@
 use Rattle.std.proofs.Common.{◌≡◌, [], ◌∷◌, None, ap, sym, ◌∙◌}
 use Rattle.std.proofs.lemmas.Result.{err_from_is_err_and}
+use Rattle.wf_facts_exprs.specs.Knowledge.{told}
 use Rattle.wf_text.specs.declared.rules.Rule.TheVariants.{B8, B9}
 use Rattle.wf_base.specs.declared.widths.Width.TheVariants.{W8}
 use Rattle.wf_ast.specs.TypedTree.{asked, at_least, number, numeric, write_fast, writer_length}
@@ -18,7 +19,7 @@ pub returns-in_err-check_one : goal.returns-in_err-check_one
 returns-in_err-check_one c =
     let r = err_from_is_err_and c.from_residual.result c.from_residual.ensures.1 in
     let t = c.args.t.now in
-    let fs = claims_in t c.args.facts.now in
+    let fs = claims_in t (told c.args.facts.now) in
     let a = numeric_by t c.args.byte c.look_at-2.ensures c.requires.byte in
     let call = write_fast (io_in (tree_of t c.args.on)) (node_number t c.args.byte) in
     rw (r.1, r.2) (first-stops _ (premise_refusal fs c.args.at call) c.in_err-check_one.field-0.0
@@ -27,7 +28,7 @@ returns-in_err-check_one c =
 pub returns : goal.returns
 returns c =
     let t = c.args.t.now in
-    let fs = claims_in t c.args.facts.now in
+    let fs = claims_in t (told c.args.facts.now) in
     let a = numeric_by t c.args.byte c.look_at-2.ensures c.requires.byte in
     let p = all_handed B8 fs ((all_of W8, numeric (node_number t c.args.byte)) ∷ []) in
     let d = demand (gives_sides fs (single (asked c.args.at writer_length (io_in (tree_of t c.args.on)))) at_least (single (number c.args.at 1))) B9 c.args.at in

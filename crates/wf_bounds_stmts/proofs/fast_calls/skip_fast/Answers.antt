@@ -26,7 +26,7 @@ returns-in_err-check_skip-clause-settles c =
     let p = all_handed B8 fs (handed_to_written call) in
     let q = premise_refusal fs c.args.at call in
     let d = answer_refusal (left_by_written call fs) c.args.at (optional_target (tree_of t) c.args.target) None in
-    rw (r.1, r.2) (or-again p q d ∙ still-refused (or_else p q) d c.in_err-check_skip.field-0.0 (is-refused (or_else p q) c.in_err-check_skip.field-0.0 (rw c.as_slice.ensures at (sym c.check_skip.ensures ∙ c.in_err-check_skip.was))))
+    rw (r.1, r.2) (or-again p q d ∙ still-refused (or_else p q) d c.in_err-check_skip.field-0.0 (is-refused (or_else p q) c.in_err-check_skip.field-0.0 (rw c.as_known.ensures.list at (sym c.check_skip.ensures ∙ c.in_err-check_skip.was))))
 
 pub returns-clause-settles : goal.returns-clause-settles
 returns-clause-settles c =
@@ -36,7 +36,7 @@ returns-clause-settles c =
     let target = optional_target (tree_of t) c.args.target in
     let p = all_handed B8 fs (handed_to_written call) in
     let q = premise_refusal fs c.args.at call in
-    let fine : or_else p q ≡ None = is-fine (or_else p q) (rw c.as_slice.ensures at (sym c.check_skip.ensures ∙ c.in_ok-check_skip.was)) in
+    let fine : or_else p q ≡ None = is-fine (or_else p q) (rw c.as_known.ensures.list at (sym c.check_skip.ensures ∙ c.in_ok-check_skip.was)) in
     let list : claims_in t c.lower_length.new.self.list ≡ left_by_written call fs =
     c.lower_length.ensures.claims ∙ ap (λ n. changed (things.Arg (record { 0 = n })) (Shortened c.number.result) fs) c.io_of.ensures
     ∙ ap (λ k. changed (things.Arg (record { 0 = io_in (tree_of t c.args.skip.on) })) (Shortened k) fs) c.number.ensures in

@@ -26,7 +26,7 @@ returns-in_err-check_write-clause-settles c =
     let p = all_handed B8 fs (handed_to_written call) in
     let q = premise_refusal fs c.args.at call in
     let d = answer_refusal (left_by_written call fs) c.args.at (optional_target (tree_of t) c.args.target) None in
-    rw (r.1, r.2) (or-again p q d ∙ still-refused (or_else p q) d c.in_err-check_write.field-0.0 (is-refused (or_else p q) c.in_err-check_write.field-0.0 (rw c.as_slice.ensures at (sym c.check_write.ensures ∙ c.in_err-check_write.was))))
+    rw (r.1, r.2) (or-again p q d ∙ still-refused (or_else p q) d c.in_err-check_write.field-0.0 (is-refused (or_else p q) c.in_err-check_write.field-0.0 (rw c.as_known.ensures.list at (sym c.check_write.ensures ∙ c.in_err-check_write.was))))
 
 pub returns-clause-settles : goal.returns-clause-settles
 returns-clause-settles c =
@@ -36,7 +36,7 @@ returns-clause-settles c =
     let target = optional_target (tree_of t) c.args.target in
     let p = all_handed B8 fs (handed_to_written call) in
     let q = premise_refusal fs c.args.at call in
-    let fine : or_else p q ≡ None = is-fine (or_else p q) (rw c.as_slice.ensures at (sym c.check_write.ensures ∙ c.in_ok-check_write.was)) in
+    let fine : or_else p q ≡ None = is-fine (or_else p q) (rw c.as_known.ensures.list at (sym c.check_write.ensures ∙ c.in_ok-check_write.was)) in
     let list : claims_in t c.lower_length.new.self.list ≡ left_by_written call fs =
     c.lower_length.ensures.claims ∙ ap (λ n. changed (things.Arg (record { 0 = n })) (Shortened (Some 1)) fs) c.io_of.ensures in
     let P : List Claim → Type 0 = λ gs. Settles t (answer_refusal gs c.args.at target None) (unwritten target gs) c.take_answer.result c.take_answer.new.facts in

@@ -70,7 +70,7 @@ returns-in-Return-clause-passes c = λ a stands.
     let tree = method_is c.args.t.now c.requires.typed c.args.m c.args.s a stands c.method.result.now c.method.ensures in
     let gives : c.method.result.now.gives ≡ a.context.method.gives = ap (λ x. x.gives) (sym tree.1) in
     let answer : c.check_returned.result ≡ unless_refused (return_refusal (claims_in c.args.t.now c.args.facts.now.list) a.context.method.gives (option_map (tree_of c.args.t.now) c.in-Return.value)) tt =
-    rw c.as_slice-in-Return.ensures at c.check_returned.ensures ∙ ap (λ of. unless_refused (return_refusal (claims_in c.args.t.now c.args.facts.now.list) of (option_map (tree_of c.args.t.now) c.in-Return.value)) tt) gives in
+    rw c.as_known.ensures.list at c.check_returned.ensures ∙ ap (λ of. unless_refused (return_refusal (claims_in c.args.t.now c.args.facts.now.list) of (option_map (tree_of c.args.t.now) c.in-Return.value)) tt) gives in
     goes c.args.t.now c.args.s (claims_in c.args.t.now c.args.facts.now.list) a c.leaves-in-Return.result c.args.facts.now (give_back (option_map (tree_of c.args.t.now) c.in-Return.value)) c.stmt_place-at.result (simple_is c.args.t.now c.args.s (stmts.Return c.in-Return.value) (c.stmt.ensures.node ∙ ap Some c.in-Return.is)) c.stmt_place-at.ensures
     (stops-passes c.args.t.now c.stmt_place-at.result (return_refusal (claims_in c.args.t.now c.args.facts.now.list) a.context.method.gives (option_map (tree_of c.args.t.now) c.in-Return.value)) c.leaves-in-Return.result c.args.facts.now (c.leaves-in-Return.ensures (return_refusal (claims_in c.args.t.now c.args.facts.now.list) a.context.method.gives (option_map (tree_of c.args.t.now) c.in-Return.value)) answer))
 

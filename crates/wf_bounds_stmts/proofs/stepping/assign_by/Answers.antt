@@ -14,7 +14,7 @@ returns-in_err-check_assigned-clause-settles c =
     λ op.
     let fs = claims_in c.args.t.now c.args.facts.now.list in
     let p = assign_refusal fs (target_of (tree_of c.args.t.now c.args.target)) (tree_of c.args.t.now c.args.value) in
-    rw (r.1, r.2) (is-refused p c.in_err-check_assigned.field-0.0 (rw c.as_slice.ensures at (sym c.check_assigned.ensures ∙ c.in_err-check_assigned.was)))
+    rw (r.1, r.2) (is-refused p c.in_err-check_assigned.field-0.0 (rw c.as_known.ensures.list at (sym c.check_assigned.ensures ∙ c.in_err-check_assigned.was)))
 
 pub returns-in-Some-clause-settles : goal.returns-in-Some-clause-settles
 returns-in-Some-clause-settles c = λ op.
@@ -26,7 +26,7 @@ returns-in-Some-clause-settles c = λ op.
     let variable : number_written (target_of w) ≡ Some c.in-Some.x =
     c.written-x.ensures.seen.variable ∙ ap (λ ty. number_variable ty x) (sym c.type_of.ensures) ∙ sym c.number_variable.ensures ∙ c.in-Some.is in
     let stands = stepped-by fs w v op ∙ ap (λ y. stepped_or_dropped fs y (written_by (target_of w)) (step_in (num_in w) v)) variable in
-    (is-fine p (rw c.as_slice.ensures at (sym c.check_assigned.ensures ∙ c.in_ok-check_assigned.was)), c.step_variable.ensures.claims ∙ sym stands)
+    (is-fine p (rw c.as_known.ensures.list at (sym c.check_assigned.ensures ∙ c.in_ok-check_assigned.was)), c.step_variable.ensures.claims ∙ sym stands)
 
 pub returns-in-None-clause-settles : goal.returns-in-None-clause-settles
 returns-in-None-clause-settles c = λ op.
@@ -39,4 +39,4 @@ returns-in-None-clause-settles c = λ op.
     c.written-x.ensures.seen.variable ∙ ap (λ ty. number_variable ty x) (sym c.type_of.ensures) ∙ sym c.number_variable.ensures ∙ c.in-None.is in
     let stands =
     stepped-by fs w v op ∙ ap (λ y. stepped_or_dropped fs y (written_by (target_of w)) (step_in (num_in w) v)) variable ∙ ap (λ y. without_some y fs) c.written-x.ensures.seen.thing in
-    (is-fine p (rw c.as_slice.ensures at (sym c.check_assigned.ensures ∙ c.in_ok-check_assigned.was)), c.drop_written.ensures.claims ∙ sym stands)
+    (is-fine p (rw c.as_known.ensures.list at (sym c.check_assigned.ensures ∙ c.in_ok-check_assigned.was)), c.drop_written.ensures.claims ∙ sym stands)

@@ -18,4 +18,4 @@ loop-i-preserved-in_default c =
 pub loop-i-preserved : goal.loop-i-preserved
 loop-i-preserved c =
     Renews-kept c.args.t.now c.args.change c.args.meant.now.words c.loop-i.dropped.words c.args.list.now c.loop-i.list c.loop-i.i c.loop-i.invariant (omega arith) c.requires.few _
-    (sym c.if-not-has.ensures) c.in-Some.f c.in-Some.ensures.claims c.in-Some.ensures.facts c.in-Some.ensures.same
+    (sym c.if-not-has.ensures) c.in-Some.f c.in-Some.ensures.claims c.in-Some.ensures.facts c.in-Some.ensures.same c.in-Some.ensures.head

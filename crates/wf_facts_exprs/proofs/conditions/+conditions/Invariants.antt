@@ -1,4 +1,5 @@
 use Rattle.std.proofs.Common.{◌≡◌, ◌+◌, ◌*◌, drop}
+use Rattle.wf_facts_exprs.specs.Knowledge.{told}
 use Rattle.wf_facts_exprs.specs.Claims.{claims_in}
 use Rattle.wf_facts_exprs.specs.Operands.{conds_refusal}
 use Rattle.wf_facts_exprs.proofs.conditions.+conditions.Given as goal
@@ -14,4 +15,4 @@ decreases-check_all l = 4 * l.e.0 + 1
 
 -- The parts so far demand nothing that isn't met.
 abbrev pub invariant-check_all-loop-i : goal.invariant-check_all-loop-i
-invariant-check_all-loop-i l = conds_refusal (claims_in l.t l.facts) l.t (drop l.i l.parts) ≡ conds_refusal (claims_in l.t l.facts) l.t l.parts
+invariant-check_all-loop-i l = conds_refusal (claims_in l.t (told l.facts)) l.t (drop l.i l.parts) ≡ conds_refusal (claims_in l.t (told l.facts)) l.t l.parts

@@ -1,4 +1,5 @@
 use Rattle.std.proofs.Common.{◌≡◌, ◌+◌, ◌*◌, drop}
+use Rattle.wf_facts_exprs.specs.Knowledge.{told}
 use Rattle.wf_facts_exprs.specs.Claims.{claims_in}
 use Rattle.wf_facts_exprs.specs.Operands.{all_given, any_given}
 use Rattle.wf_facts_exprs.proofs.giving.+giving.Given as goal
@@ -17,7 +18,7 @@ decreases-gives_any l = 4 * l.e.0 + 1
 
 -- All parts so far are given, and none of them is.
 abbrev pub invariant-gives_all-loop-i : goal.invariant-gives_all-loop-i
-invariant-gives_all-loop-i l = all_given (claims_in l.t l.facts) l.t (drop l.i l.parts) l.answer ≡ all_given (claims_in l.t l.facts) l.t l.parts l.answer
+invariant-gives_all-loop-i l = all_given (claims_in l.t (told l.facts)) l.t (drop l.i l.parts) l.answer ≡ all_given (claims_in l.t (told l.facts)) l.t l.parts l.answer
 
 abbrev pub invariant-gives_any-loop-i : goal.invariant-gives_any-loop-i
-invariant-gives_any-loop-i l = any_given (claims_in l.t l.facts) l.t (drop l.i l.parts) l.answer ≡ any_given (claims_in l.t l.facts) l.t l.parts l.answer
+invariant-gives_any-loop-i l = any_given (claims_in l.t (told l.facts)) l.t (drop l.i l.parts) l.answer ≡ any_given (claims_in l.t (told l.facts)) l.t l.parts l.answer

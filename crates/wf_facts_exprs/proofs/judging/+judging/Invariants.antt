@@ -1,6 +1,7 @@
 use Rattle.std.proofs.Common.{◌≡◌, ◌+◌, ◌-◌, ◌*◌, ◌<◌, ◌≤◌, drop, map, nat_lt, length}
 use Rattle.wf_num.specs.Ranges.{IsSmall}
 use Rattle.wf_ast.specs.TypedTrees.{place_of_node, signs_of_node}
+use Rattle.wf_facts_exprs.specs.Knowledge.{told}
 use Rattle.wf_facts_exprs.specs.Claims.{claims_in}
 use Rattle.wf_ast.specs.TypedTrees.{num_type, type_of_node}
 use Rattle.wf_ast.specs.NodeKinds.{node_number}
@@ -50,6 +51,6 @@ decreases-judge_next l = 8 * l.part.0 + 8
 abbrev pub invariant-judge_chain-loop-i : goal.invariant-judge_chain-loop-i
 invariant-judge_chain-loop-i l = record {
   from : 1 ≤ l.i;
-  left : chain_on (claims_in l.t l.facts) (place_of_node l.t l.e.0) (arith_of l.op) (num_type (type_of_node l.t l.e.0)).bits (nat_lt 1 l.i) (part_number l.t l.parts 0) l.r (map (node_number l.t) (drop l.i l.parts)) (drop (l.i - 1) (signs_of_node l.t l.e.0)) ≡ ruled (claims_in l.t l.facts) (node_number l.t l.e);
+  left : chain_on (claims_in l.t (told l.facts)) (place_of_node l.t l.e.0) (arith_of l.op) (num_type (type_of_node l.t l.e.0)).bits (nat_lt 1 l.i) (part_number l.t l.parts 0) l.r (map (node_number l.t) (drop l.i l.parts)) (drop (l.i - 1) (signs_of_node l.t l.e.0)) ≡ ruled (claims_in l.t (told l.facts)) (node_number l.t l.e);
   small : l.i < length l.parts → IsSmall l.r;
 }

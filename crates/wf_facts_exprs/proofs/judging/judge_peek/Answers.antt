@@ -5,6 +5,7 @@ use Rattle.wf_num.specs.Ranges.{width_range}
 use Rattle.wf_base.specs.BaseTable.{bits_of, bytes_of, peek_width}
 use Rattle.wf_ast.specs.TypedTree.{ValueTree, reader_length, asked, number, at_least}
 use Rattle.wf_ast.specs.TypedTrees.{num_in, io_in, tree_of, place_of_node}
+use Rattle.wf_facts_exprs.specs.Knowledge.{told}
 use Rattle.wf_facts_exprs.specs.Claims.{claims_in, single}
 use Rattle.wf_facts_exprs.specs.Given.{gives_sides}
 use Rattle.wf_facts_exprs.specs.Operands.{ruled}
@@ -13,7 +14,7 @@ use Rattle.wf_facts_exprs.proofs.judging.judge_peek.Goals as goal
 
 pub returns-then-gives_ranged-clause-answer : goal.returns-then-gives_ranged-clause-answer
 returns-then-gives_ranged-clause-answer c =
-    let fs = claims_in c.args.t.now c.args.facts.now in
+    let fs = claims_in c.args.t.now (told c.args.facts.now) in
     let p = place_of_node c.args.t.now c.args.e.0 in
     let a = io_in (tree_of c.args.t.now c.args.on) in
     let R = λ (t : ValueTree). Ok c.of_bits.result ≡ ruled fs (num_in t) in
@@ -24,7 +25,7 @@ returns-then-gives_ranged-clause-answer c =
 
 pub returns-else-gives_ranged-clause-answer : goal.returns-else-gives_ranged-clause-answer
 returns-else-gives_ranged-clause-answer c =
-    let fs = claims_in c.args.t.now c.args.facts.now in
+    let fs = claims_in c.args.t.now (told c.args.facts.now) in
     let p = place_of_node c.args.t.now c.args.e.0 in
     let a = io_in (tree_of c.args.t.now c.args.on) in
     let R = λ (t : ValueTree). Err (record { rule = B9; at = c.expr_place.result }) ≡ ruled fs (num_in t) in

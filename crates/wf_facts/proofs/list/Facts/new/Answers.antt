@@ -1,5 +1,5 @@
-use Rattle.wf_facts.proofs.DropLemmas.{IsOver-new}
+use Rattle.wf_facts.proofs.LeftLemmas.{IsOver-empty}
 use Rattle.wf_facts.proofs.list.Facts.new.Goals as goal
 
 pub returns-clause-over : goal.returns-clause-over
-returns-clause-over c nodes = IsOver-new nodes c.in_ok-list.list.items _ c.in_ok-list.ensures.items c.in_ok-sets.ensures
+returns-clause-over c nodes = IsOver-empty nodes c.in_ok-slots.slots c.new-2.result.words (c.in_ok-slots.ensures.over nodes) c.in_ok-slots.ensures.empty c.new-2.ensures.words

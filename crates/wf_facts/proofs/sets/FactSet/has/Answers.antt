@@ -1,5 +1,0 @@
-use Rattle.wf_facts.proofs.SetLemmas.{told}
-use Rattle.wf_facts.proofs.sets.FactSet.has.Goals as goal
-
-pub returns : goal.returns
-returns c = told c.args.self.now.words c.args.i

@@ -1,6 +1,0 @@
-use Rattle.std.proofs.Common.{rules}
-use Rattle.wf_facts.proofs.SetLemmas.{inserted}
-use Rattle.wf_facts.proofs.sets.FactSet.insert.Goals as goal
-
-pub returns : goal.returns
-returns c = inserted c.args.self.now.words (search rules) c.args.i c.requires
